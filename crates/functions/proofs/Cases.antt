@@ -1,0 +1,39 @@
+-- Proofs by cases: two numbers by their order, and a test that did not refuse.
+use mathlib.Core.Path.{_≡_, refl}
+use mathlib.Core.Bool.{Bool, true, false, cond}
+use mathlib.Core.Logic.{_⊎_, inl, inr, ⊎-elim}
+use Prim.Native.Nat.{ℕ, _≤_, _<_}
+use native.Mathlib.Nat.{eq-zero-or-pos}
+use native.Mathlib.Decide.{decLt}
+use native.Mathlib.Omega.{arith}
+use borrow.Author.Tests.{eq-eqb, ne-eqb}
+use lib.Dec.{eqb}
+
+pub lt-or-ge : (a b : ℕ) → (a < b) ⊎ (b ≤ a)
+lt-or-ge a b = go (decLt a b)
+  where
+    go : Dec (a < b) → (a < b) ⊎ (b ≤ a)
+    go (yes h) = inl h
+    go (no h) = inr (omega arith)
+
+pub data Order (a b : ℕ) : Type 0 where
+  below : a < b → Order a b
+  equal : a ≡ b → Order a b
+  above : b < a → Order a b
+
+pub order : (a b : ℕ) → Order a b
+order a b = go (lt-or-ge a b) (lt-or-ge b a)
+  where
+    go : (a < b) ⊎ (b ≤ a) → (b < a) ⊎ (a ≤ b) → Order a b
+    go (inl h) k = below h
+    go (inr h) (inl k) = above k
+    go (inr h) (inr k) = equal (omega arith)
+
+-- a refusal that did not happen
+pub not-refused : (test : Bool) (number rest : ℕ) → 0 < number → cond test number rest ≡ 0 → (test ≡ false) × (rest ≡ 0)
+not-refused true number rest l e = absurd (omega arith)
+not-refused false number rest l e = (refl, e)
+
+-- a number that lets a second one decide where it is 0
+pub then-zero : (n m : ℕ) → cond (eqb n 0) m n ≡ 0 → (n ≡ 0) × (m ≡ 0)
+then-zero n m e = ⊎-elim (λ none. (none, rw (eq-eqb n 0 none) at e)) (λ some. absurd (omega (arith, rw (ne-eqb n 0 (omega arith)) at e))) (eq-zero-or-pos n)

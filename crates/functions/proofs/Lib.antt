@@ -1,0 +1,14 @@
+pub mod Cases
+pub mod Bounds
+pub mod Superadditive
+pub mod Mirror
+pub mod Quotient
+pub mod FirstFour
+pub mod Remainder
+pub mod DashGunluk
+pub mod Legal
+pub mod Promise
+pub mod Ready
+pub mod Answers
+pub mod Pasted
+pub mod Mapped

@@ -1,0 +1,64 @@
+-- `legal_single` meets its contract: in each arm the family byte is known, and the definition computes to the arm's test.
+use mathlib.Core.Path.{_≡_}
+use native.Mathlib.Omega.{arith}
+use borrow.Author.Tests.{le-leb, lt-leb}
+use Rattle.functions.specs.Families.{legalFor}
+use borrow.Author.Needs.{needs}
+use Rattle.functions.proofs.judge.legal_single.Statement.{statement}
+use Rattle.functions.proofs.judge.legal_single.Tie as tie
+
+mul-result : tie.Need-mul-result
+mul-result c = search needs
+
+mul-result-2 : tie.Need-mul-result-2
+mul-result-2 c = search needs
+
+fifth : (c : tie.At-match-rest) → c .before .args .family ≡ 5
+fifth c = omega arith
+
+returns : tie.Need-returns
+unfolding legalFor
+returns c = rw (c .match .keys1)
+
+returns-2 : tie.Need-returns-2
+unfolding legalFor
+returns-2 c = rw (c .match .keys2)
+
+returns-3 : tie.Need-returns-3
+unfolding legalFor
+returns-3 c = rw (c .before .match .keys3, le-leb 1 _ (c .if1 .taken))
+
+returns-4 : tie.Need-returns-4
+unfolding legalFor
+returns-4 c = rw (c .before .match .keys3, lt-leb 1 _ (c .if1 .left))
+
+returns-5 : tie.Need-returns-5
+unfolding legalFor
+returns-5 c = rw (c .before .match .keys4, le-leb 2 _ (c .if2 .taken))
+
+returns-6 : tie.Need-returns-6
+unfolding legalFor
+returns-6 c = rw (c .before .match .keys4, lt-leb 2 _ (c .if2 .left))
+
+returns-7 : tie.Need-returns-7
+unfolding legalFor
+returns-7 c = rw (fifth (c .before), le-leb 1 _ (c .if3 .taken))
+
+returns-8 : tie.Need-returns-8
+unfolding legalFor
+returns-8 c = rw (fifth (c .before), lt-leb 1 _ (c .if3 .left))
+
+pub legal-single-spec : {M : Type 1} → statement M
+legal-single-spec =
+    tie.close
+    (tie.spec
+    mul-result
+    mul-result-2
+    returns
+    returns-2
+    returns-3
+    returns-4
+    returns-5
+    returns-6
+    returns-7
+    returns-8)

@@ -1,0 +1,5 @@
+pub mod Words
+pub mod Families
+pub mod Image
+pub mod Promise
+pub mod Rows

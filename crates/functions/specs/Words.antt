@@ -1,0 +1,22 @@
+-- The words of document 01, "Words".
+use mathlib.Core.List.{List, [], _∷_, map}
+use mathlib.Core.Bool.{Bool, _&&_}
+use Prim.Native.Nat.{ℕ, _+_, _≤_}
+use lib.Dec.{leb}
+
+-- the greatest capacity, parameter, scale and table entry
+abbrev pub limit : ℕ
+limit = 1_000_000_000
+
+-- refusal 1 is that this is false
+unfoldable pub capacityFits : ℕ → Bool
+capacityFits c = leb 1 c && leb c limit
+
+-- the sum of a list
+unfoldable pub total : List ℕ → ℕ
+total [] = 0
+total (x ∷ xs) = x + total xs
+
+-- f is dual-feasible from the capacity c to the scale d: the images of each list that fits c total at most d
+unfoldable pub DualFeasible : (ℕ → ℕ) → ℕ → ℕ → Type 0
+DualFeasible f c d = (xs : List ℕ) → total xs ≤ c → total (map f xs) ≤ d

@@ -1,0 +1,132 @@
+// The seven formulas at one size. What a formula needs and the size does not change, as the
+// remainder of the capacity, comes in as a number, so that a loop over sizes computes it once.
+ghost use mathlib.Core.Path.{_≡_};
+ghost use Prim.Native.Nat.{ℕ, _+_, _-_, _*_, _/_, _%_, _^_, _≤_, _<_, min};
+ghost use Rattle.functions.specs.Words.{limit};
+ghost use Rattle.functions.specs.Families.{_up_, mirror, threshold, rounding, quotient, vanderbeck, burdettJohnson, letchfordLodi, dashGunluk};
+
+// The quotient rounded up.
+pub(crate) fn round_up(a: u64, b: u64) -> u64
+    requires { ⌜ (0 < b) × (a + b < 2 ^ 64) ⌝ }
+    ensures { λ r. ⌜ r ≡ (a up b) ⌝ }
+{
+    (a + (b - 1)) / b
+}
+
+fn lesser(a: u64, b: u64) -> u64
+    ensures { λ r. ⌜ r ≡ min a b ⌝ }
+{
+    if a < b { a } else { b }
+}
+
+// How far a is above b, or 0.
+fn excess(a: u64, b: u64) -> u64
+    ensures { λ r. ⌜ r ≡ a - b ⌝ }
+{
+    if b < a { a - b } else { 0 }
+}
+
+// The mirror of a function at x, from its values: top at the capacity, and part at x or at
+// capacity - x, whichever is less.
+fn mirrored(capacity: u64, top: u64, part: u64, x: u64) -> u64
+    requires { ⌜ (x ≤ capacity) × (capacity ≤ limit) × (part ≤ top) × (2 * top < 2 ^ 64) ⌝ }
+    ensures { λ r. ⌜ ((g : ℕ → ℕ) → g capacity ≡ top → g (min x (capacity - x)) ≡ part → r ≡ mirror capacity g x) ⌝ }
+{
+    if 2 * x < capacity {
+        2 * part
+    } else if 2 * x == capacity {
+        top
+    } else {
+        2 * top - 2 * part
+    }
+}
+
+// Family 1.
+pub(crate) fn threshold(capacity: u64, p: u64, x: u64) -> u64
+    requires { ⌜ p ≤ capacity ⌝ }
+    ensures { λ r. ⌜ r ≡ threshold capacity p x ⌝ }
+{
+    if capacity - p < x {
+        capacity
+    } else if x < p {
+        0
+    } else {
+        x
+    }
+}
+
+// Family 2: x * (p + 1) rounded down to a multiple of the capacity, less x where it is one itself.
+pub(crate) fn rounding(capacity: u64, p: u64, x: u64) -> u64
+    requires { ⌜ (0 < capacity) × (p ≤ limit) × (x ≤ limit) ⌝ }
+    ensures { λ r. ⌜ r ≡ rounding capacity p x ⌝ }
+{
+    let scaled = x * (p + 1);
+    let whole = scaled / capacity * capacity;
+    if whole == scaled { whole - x } else { whole }
+}
+
+// Family 3, with top = capacity / p.
+pub(crate) fn mirrored_quotient(capacity: u64, p: u64, top: u64, x: u64) -> u64
+    requires { ⌜ (x ≤ capacity) × (capacity ≤ limit) × (0 < p) × (top ≡ quotient p capacity) ⌝ }
+    ensures { λ r. ⌜ r ≡ mirror capacity (quotient p) x ⌝ }
+{
+    mirrored(capacity, top, lesser(x, capacity - x) / p, x)
+}
+
+// Family 4.
+pub(crate) fn mirrored_vanderbeck(capacity: u64, p: u64, x: u64) -> u64
+    requires { ⌜ (x ≤ capacity) × (0 < capacity) × (capacity ≤ limit) × (1 ≤ p) × (p ≤ limit) ⌝ }
+    ensures { λ r. ⌜ r ≡ mirror capacity (vanderbeck capacity p) x ⌝ }
+{
+    let y = lesser(x, capacity - x);
+    let part = round_up(p * y, capacity) - lesser(y, 1);
+    mirrored(capacity, p - 1, part, x)
+}
+
+// Family 5, with r = capacity % p.
+pub(crate) fn burdett_johnson(p: u64, r: u64, x: u64) -> u64
+    requires { ⌜ r < p ⌝ }
+    ensures { λ y. ⌜ y ≡ burdettJohnson p r x ⌝ }
+{
+    x / p * (p - r) + excess(x % p, r)
+}
+
+fn letchford_lodi(p: u64, q: u64, r: u64, x: u64) -> u64
+    requires { ⌜ (r < p) × (p ≤ limit) × (q ≤ limit) × (x ≤ limit) ⌝ }
+    ensures { λ y. ⌜ y ≡ letchfordLodi p q r x ⌝ }
+{
+    (q + 1) * (x / p) + round_up(excess(x % p, r) * q, p - r)
+}
+
+// Family 6, with r = capacity % p and top = (q + 1) * (capacity / p).
+pub(crate) fn mirrored_letchford_lodi(
+    capacity: u64,
+    p: u64,
+    q: u64,
+    r: u64,
+    top: u64,
+    x: u64,
+) -> u64
+    requires { ⌜ (x ≤ capacity) × (capacity ≤ limit) × (p ≤ capacity) × (q ≤ limit) × (r < p) × (p - r ≤ q * r) × (top ≡ letchfordLodi p q r capacity) ⌝ }
+    ensures { λ y. ⌜ y ≡ mirror capacity (letchfordLodi p q r) x ⌝ }
+{
+    let part = letchford_lodi(p, q, r, lesser(x, capacity - x));
+    mirrored(capacity, top, part, x)
+}
+
+// Family 7, with r = capacity % p. The gap p - r divides q * (p - a) where it divides n.
+pub(crate) fn dash_gunluk(p: u64, q: u64, r: u64, x: u64) -> u64
+    requires { ⌜ (r < p) × (p ≤ limit) × (q ≤ limit) × (x ≤ limit) ⌝ }
+    ensures { λ y. ⌜ y ≡ dashGunluk p q r x ⌝ }
+{
+    let gap = p - r;
+    let b = excess(x % p, r);
+    let n = b * q;
+    let whole = round_up(n, gap) * gap;
+    let base = x / p * gap * (q + 1);
+    if whole == n {
+        base + (n + b)
+    } else {
+        base + whole
+    }
+}

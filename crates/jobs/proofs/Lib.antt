@@ -1,0 +1,11 @@
+pub mod Chains
+pub mod Packings
+pub mod Reading
+pub mod Parsing
+pub mod SoFar
+pub mod Heads
+pub mod Words
+pub mod SizeTests
+pub mod Judging
+pub mod Present
+pub mod Applying

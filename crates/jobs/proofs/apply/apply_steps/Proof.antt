@@ -1,0 +1,76 @@
+-- `apply_steps` meets its contract: the loop's invariant is `Through`.
+use mathlib.Core.Path.{_≡_, ap, sym, _∙_}
+use mathlib.Core.List.{_∷_}
+use Prim.Native.Nat.{ℕ, suc, _-_, _≤_}
+use native.Mathlib.Omega.{arith}
+use borrow.Author.Needs.{needs}
+use lib.ListN.{length, drop}
+use Rattle.jobs.specs.Record.{StepWithin, StepsWithin, stepsIn}
+use Rattle.jobs.proofs.Present.{steps-length, steps-at, step-at}
+use Rattle.jobs.proofs.Applying.{Through, through-start, through-next, through-end, now-fine}
+use Rattle.jobs.proofs.apply.apply_steps.Statement.{statement}
+use Rattle.jobs.proofs.apply.apply_steps.Tie as tie
+
+abbrev Inv-loop : tie.InvT-loop
+Inv-loop job capacity images₀ items count present₀ i₀ images present i = (i ≤ count) × Through capacity (stepsIn job (record { items = items; count = count })) images₀ images present i
+
+abbrev μ-loop : tie.MeasureT-loop
+μ-loop job capacity images₀ items count present₀ i₀ images present i = count - i
+
+loop-holds : tie.Need-loop-holds Inv-loop μ-loop
+loop-holds c =
+    let pre = c .before .before .before .pre in
+    (omega arith, through-start _ _ _ (pre .1) (pre .2) (pre .3) (pre .4))
+
+mul-s : tie.Need-mul-s Inv-loop μ-loop
+mul-s c = omega arith
+
+array-copy-out-s : tie.Need-array-copy-out-s Inv-loop μ-loop
+array-copy-out-s c = omega (arith, c .before .before .before .before .before .pre .0 .most)
+
+-- the step that a turn applies, and those behind it
+here : (c : tie.In-loop Inv-loop μ-loop) → drop (c .before .loop .i) (stepsIn (c .before .before .before .before .before .args .job .now) (c .before .before .before .before .before .args .steps)) ≡ step-at (c .before .before .before .before .before .args .job .now) (c .before .before .before .before .before .args .steps) (c .before .before .before .before .before .pre .0) (c .before .loop .i) ∷ drop (suc (c .before .loop .i)) (stepsIn (c .before .before .before .before .before .args .job .now) (c .before .before .before .before .before .args .steps))
+here c = steps-at _ _ (c .before .before .before .before .before .pre .0) (c .before .loop .i) (c .loop-test .taken)
+
+apply-at-requires : tie.Need-apply-at-requires Inv-loop μ-loop
+apply-at-requires c κs =
+    let k = c .before .before in
+    let loop = k .before .loop in
+    (k .before .before .before .before .before .pre .0 .each (loop .i) (k .loop-test .taken), now-fine _ _ _ _ _ _ (loop .inv .1) _ (here k), loop .inv .1 .small)
+
+add-i : tie.Need-add-i Inv-loop μ-loop
+add-i c = omega (arith, c .before .before .before .before .before .loop-test .taken, c .before .before .before .before .before .before .before .before .before .before .pre .0 .most)
+
+loop-less : tie.Need-loop-less Inv-loop μ-loop
+loop-less c = omega arith
+
+loop-again : tie.Need-loop-again Inv-loop μ-loop
+loop-again c =
+    let k = c .before .before .before .before .before in
+    let loop = k .before .loop in
+    (omega (arith, k .loop-test .taken), through-next _ _ _ _ _ _ (loop .inv .1) _ (here k) _ _ (c .before .before .apply-at .ensures))
+
+same-length : tie.Need-same-length Inv-loop μ-loop
+same-length c = c .before .loop .inv .1 .same-length
+
+returns : tie.Need-returns Inv-loop μ-loop
+returns c =
+    let start = c .before .before .before .before .before in
+    let loop = c .before .loop in
+    through-end _ _ _ _ _ _ (loop .inv .1) (omega (arith, c .loop-test .left, steps-length (start .args .job .now) (start .args .steps) (start .pre .0)))
+
+pub apply-steps-spec : {M : Type 1} → statement M
+apply-steps-spec =
+    tie.close
+    (tie.spec
+    Inv-loop
+    μ-loop
+    loop-holds
+    mul-s
+    array-copy-out-s
+    apply-at-requires
+    add-i
+    loop-less
+    loop-again
+    same-length
+    returns)

@@ -1,0 +1,48 @@
+-- The steps of a job judged in order, document 01, "Operations and what they refuse", Job.
+use mathlib.Core.Bool.{cond}
+use mathlib.Core.List.{List, [], _∷_}
+use Prim.Native.Nat.{ℕ, suc}
+use lib.Dec.{eqb}
+use lib.ListN.{length}
+use Rattle.tables.specs.Table.{counterexample}
+use Rattle.jobs.specs.Chain.{Step, onFamily, onTable, stepScale, stepRefusal, chainScale}
+use Rattle.jobs.specs.declared.StepAnswer.{StepAnswer}
+use Rattle.jobs.specs.declared.Verdict.{Verdict}
+
+-- the list that goes with a refusal's number: at 11 the table's counterexample
+unfoldable pub stepList : ℕ → Step → List ℕ
+stepList number (onFamily family p q) = []
+stepList number (onTable t) = cond (eqb number 11) (counterexample t) []
+
+-- a step judged at a capacity: the number, the scale where it is 0, the list's length
+unfoldable pub stepAnswer : ℕ → Step → StepAnswer
+stepAnswer c s =
+    record {
+      number = stepRefusal c s;
+      scale = cond (eqb (stepRefusal c s) 0) (stepScale c s) 0;
+      length = length (stepList (stepRefusal c s) s);
+    }
+
+-- what refuses a job: a number, the step's place where a step is refused, and its list
+pub record Refusal : Type 0 where
+  pub number : ℕ
+  pub step : ℕ
+  pub list : List ℕ
+
+-- the steps in order, behind k others: the first that is refused, or number 0
+unfoldable pub judgeChain : ℕ → ℕ → List Step → Refusal
+judgeChain c k [] = record { number = 0; step = 0; list = [] }
+judgeChain c k (s ∷ steps) =
+    cond (eqb (stepRefusal c s) 0)
+    (judgeChain (stepScale c s) (suc k) steps)
+    (record { number = stepRefusal c s; step = suc k; list = stepList (stepRefusal c s) s })
+
+-- the verdict on a chain
+unfoldable pub verdictOf : ℕ → List Step → Verdict
+verdictOf c steps =
+    record {
+      number = judgeChain c 0 steps .number;
+      step = judgeChain c 0 steps .step;
+      scale = cond (eqb (judgeChain c 0 steps .number) 0) (chainScale c steps) 0;
+      length = length (judgeChain c 0 steps .list);
+    }

@@ -1,0 +1,6 @@
+pub mod Chain
+pub mod Packing
+pub mod Fields
+pub mod Record
+pub mod Sizes
+pub mod Judge

@@ -1,0 +1,9 @@
+pub mod Entries
+pub mod Best
+pub mod Halved
+pub mod Filled
+pub mod Walk
+pub mod Written
+pub mod Promise
+pub mod Outcome
+pub mod Rows

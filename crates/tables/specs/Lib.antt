@@ -1,0 +1,4 @@
+pub mod Table
+pub mod Check
+pub mod Promise
+pub mod Rows

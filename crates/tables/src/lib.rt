@@ -1,0 +1,76 @@
+// The table check: whether a table of images is dual-feasible, and a counterexample if not.
+mod fill;
+mod form;
+mod refute;
+
+ghost use mathlib.Core.Path.{_≡_};
+ghost use mathlib.Core.List.{map};
+ghost use lib.ListN.{length, take};
+ghost use Rattle.tables.specs.Table.{entry};
+ghost use Rattle.tables.specs.Check.{tableAnswer, workingAfter, listAfter};
+ghost use Rattle.tables.specs.Promise.{Overshoots};
+
+// The answer to a table check: the number that refuses it, or 0; at 11 the counterexample's length.
+#[repr(C)]
+pub struct TableAnswer {
+    pub number: u64,
+    pub length: u64,
+}
+
+#[no_mangle]
+pub extern "C" fn windowfloor_table_check(
+    table: &[u32],
+    working: &mut [u64],
+    list: &mut [u32],
+) -> TableAnswer
+    ensures answer { λ r. ⌜ r ≡ tableAnswer (now (table .entry)) (length (now (working .entry))) (length (now (list .entry))) ⌝ }
+    ensures working { λ _. ⌜ now (working .exit) ≡ workingAfter (now (table .entry)) (now (working .entry)) (now (list .entry)) ⌝ }
+    ensures list { λ _. ⌜ now (list .exit) ≡ listAfter (now (table .entry)) (now (working .entry)) (now (list .entry)) ⌝ }
+    ensures overshoots { λ r. ⌜ (r .number ≡ 11 → Overshoots (now (table .entry)) (take (r .length) (now (list .exit)))) ⌝ }
+{
+    let lengths = form::refuse_lengths(table.len(), working.len(), list.len());
+    if lengths != 0 {
+        return TableAnswer {
+            number: lengths,
+            length: 0,
+        };
+    }
+    let entries = form::refuse_form(table);
+    if entries != 0 {
+        return TableAnswer {
+            number: entries,
+            length: 0,
+        };
+    }
+    fill::fill_bests(table, working);
+    let last = table.len() - 1;
+    if working[last] <= table[last] as u64 {
+        return TableAnswer {
+            number: 0,
+            length: 0,
+        };
+    }
+    let length = refute::write_counterexample(table, working, list);
+    TableAnswer {
+        number: 11,
+        length: length as u64,
+    }
+}
+
+// Maps each size of a list to its entry, in place; a size over the capacity becomes 0.
+pub fn map_table(table: &[u32], list: &mut [u32])
+    ensures { λ _. ⌜ now (list .exit) ≡ map (entry (now (table .entry))) (now (list .entry)) ⌝ }
+{
+    let mut i = 0;
+    while i < list.len() {
+        let x = list[i] as usize;
+        list[i] = entry_at(table, x);
+        i += 1;
+    }
+}
+
+fn entry_at(table: &[u32], x: usize) -> u32
+    ensures { λ r. ⌜ r ≡ entry (now (table .entry)) x ⌝ }
+{
+    if x < table.len() { table[x] } else { 0 }
+}

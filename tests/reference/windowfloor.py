@@ -1,0 +1,485 @@
+"""Reference for the operations of the scope document ("01"), written for
+clarity. Comments name the section of 01 that a function follows."""
+
+import sys
+
+LIMIT = 1_000_000_000  # capacities, parameters, scales and table entries
+
+# Refusal numbers (01, Operations and what they refuse).
+ACCEPTED = 0
+BAD_CAPACITY = 1
+BAD_FAMILY = 2
+BAD_PARAMETER = 3
+SCALE_TOO_LARGE = 4
+SIZE_OVER_CAPACITY = 5
+BAD_COUNT = 6
+SHORT_BUFFER = 7
+FIRST_ENTRY_NOT_0 = 8
+LAST_ENTRY_0 = 9
+ENTRY_TOO_LARGE = 10
+NOT_DUAL_FEASIBLE = 11
+JOB_TOO_LONG = 12
+PAST_THE_END = 13
+BAD_TAG = 14
+BAD_LENGTH = 15
+BAD_KIND = 16
+BAD_SIZE = 17
+OTHER_CAPACITY = 18
+BAD_RANGE = 19
+NO_LEGAL_P = 20
+
+FLOOR, CUT = 1, 2  # kinds
+KIND, CAPACITY, SIZES, FAMILY_STEP, TABLE_STEP = 1, 2, 3, 4, 5  # tags
+
+
+# 01, Words
+
+def up(a, b):
+    """a up b: the quotient rounded up."""
+    return a // b + (1 if a % b > 0 else 0)
+
+
+# 01, Families: the formulas
+
+def threshold(capacity, p, x):
+    """Families, 1."""
+    if x > capacity - p:
+        return capacity
+    if x < p:
+        return 0
+    return x
+
+
+def rounding(capacity, p, x):
+    """Families, 2."""
+    if x * (p + 1) % capacity == 0:
+        return x * p
+    return x * (p + 1) // capacity * capacity
+
+
+def mirror(g, capacity, x):
+    """Families, the mirror of g."""
+    if 2 * x < capacity:
+        return 2 * g(x)
+    if 2 * x == capacity:
+        return g(capacity)
+    return 2 * g(capacity) - 2 * g(capacity - x)
+
+
+def quotient(p, x):
+    """Families, 3, before the mirror."""
+    return x // p
+
+
+def vanderbeck(capacity, p, x):
+    """Families, 4, before the mirror."""
+    if x == 0:
+        return 0
+    return up(p * x, capacity) - 1
+
+
+def burdett_johnson(capacity, p, x):
+    """Families, 5."""
+    r = capacity % p
+    a = x % p
+    phi = p - r
+    result = x // p * phi
+    if a > r:
+        result += a - r
+    return result
+
+
+def theta(a, r, q, phi):
+    """Families, 6: only used where a > r."""
+    assert a > r
+    return up((a - r) * q, phi)
+
+
+def letchford_lodi(capacity, p, q, x):
+    """Families, 6, before the mirror."""
+    r = capacity % p
+    a = x % p
+    phi = p - r
+    result = (q + 1) * (x // p)
+    if a > r:
+        result += theta(a, r, q, phi)
+    return result
+
+
+def dash_gunluk(capacity, p, q, x):
+    """Families, 7."""
+    r = capacity % p
+    a = x % p
+    phi = p - r
+    start = x // p * (q + 1) * phi
+    if a <= r:
+        return start
+    if q * (p - a) % phi == 0:
+        return start + (q + 1) * (a - r)
+    return start + theta(a, r, q, phi) * phi
+
+
+def family_image(capacity, family, p, q, x):
+    """Families: the image of x, for legal parameters."""
+    if family == 1:
+        return threshold(capacity, p, x)
+    if family == 2:
+        return rounding(capacity, p, x)
+    if family == 3:
+        return mirror(lambda y: quotient(p, y), capacity, x)
+    if family == 4:
+        return mirror(lambda y: vanderbeck(capacity, p, y), capacity, x)
+    if family == 5:
+        return burdett_johnson(capacity, p, x)
+    if family == 6:
+        return mirror(lambda y: letchford_lodi(capacity, p, q, y), capacity, x)
+    return dash_gunluk(capacity, p, q, x)
+
+
+# 01, Families: legal parameters and scales
+
+def legal_with_q(capacity, p, q):
+    """Families, 6 and 7."""
+    if not 1 <= p <= capacity:
+        return False
+    r = capacity % p
+    return r > 0 and q >= up(p, r) - 1
+
+
+def legal(capacity, family, p, q):
+    """Families: p and q are legal (refusal 3 does not apply)."""
+    if p > LIMIT or q > LIMIT:
+        return False
+    if family <= 5 and q != 0:
+        return False
+    if family == 1:
+        return 2 * p <= capacity
+    if family == 2:
+        return p >= 1
+    if family == 3:
+        return p >= 1 and 2 * p <= capacity
+    if family == 4:
+        return 2 <= p <= capacity
+    if family == 5:
+        return 1 <= p <= capacity
+    return legal_with_q(capacity, p, q)
+
+
+def mirror_scale(g_of_capacity):
+    """Families, the mirror: its scale."""
+    return 2 * g_of_capacity
+
+
+def family_scale(capacity, family, p, q):
+    """Families: the scale D, for legal parameters."""
+    if family == 1:
+        return capacity
+    if family == 2:
+        return capacity * p
+    if family == 3:
+        return mirror_scale(quotient(p, capacity))
+    if family == 4:
+        return mirror_scale(vanderbeck(capacity, p, capacity))
+    phi = p - capacity % p
+    if family == 5:
+        return capacity // p * phi
+    if family == 6:
+        return mirror_scale(letchford_lodi(capacity, p, q, capacity))
+    return phi * (q + 1) * (capacity // p)
+
+
+# 01, Operations: Image
+
+def capacity_refused(capacity):
+    """Operations, Image: refusal 1."""
+    return capacity == 0 or capacity > LIMIT
+
+
+def family_refusal(capacity, family, p, q):
+    """Operations, Image: refusals 2, 3 and 4, or 0."""
+    if not 1 <= family <= 7:
+        return BAD_FAMILY
+    if not legal(capacity, family, p, q):
+        return BAD_PARAMETER
+    if family_scale(capacity, family, p, q) > LIMIT:
+        return SCALE_TOO_LARGE
+    return ACCEPTED
+
+
+def image(capacity, family, p, q, x):
+    """Operations, Image -> (number, image, scale)."""
+    if capacity_refused(capacity):
+        return BAD_CAPACITY, 0, 0
+    number = family_refusal(capacity, family, p, q)
+    if number != ACCEPTED:
+        return number, 0, 0
+    if x > capacity:
+        return SIZE_OVER_CAPACITY, 0, 0
+    scale = family_scale(capacity, family, p, q)
+    return ACCEPTED, family_image(capacity, family, p, q, x), scale
+
+
+# 01, Tables and Operations: Table check
+
+def best_totals(entries):
+    """Tables: best(0) to best(C). A list is empty, or it has a size y and a
+    rest that fits into c - y; sizes 0 add nothing."""
+    best = [0]
+    for c in range(1, len(entries)):
+        best.append(max(0, max(entries[y] + best[c - y] for y in range(1, c + 1))))
+    return best
+
+
+def counterexample(entries, best):
+    """Tables: the counterexample."""
+    found = []
+    c = len(entries) - 1
+    while best[c] > 0:
+        y = 1
+        while entries[y] + best[c - y] != best[c]:
+            y += 1
+        found.append(y)
+        c -= y
+    return found
+
+
+def content_refusal(entries):
+    """Operations, Table check: refusals 8, 9 and 10, or 0."""
+    if entries[0] != 0:
+        return FIRST_ENTRY_NOT_0
+    if entries[-1] == 0:
+        return LAST_ENTRY_0
+    if max(entries) > LIMIT:
+        return ENTRY_TOO_LARGE
+    return ACCEPTED
+
+
+def early_table_refusal(entries, working, lst):
+    """Operations, Table check: refusals 6 to 10, or 0."""
+    if not 2 <= len(entries) <= 2048:
+        return BAD_COUNT
+    if len(working) < len(entries) or len(lst) < len(entries) - 1:
+        return SHORT_BUFFER
+    return content_refusal(entries)
+
+
+def table_check(entries, working, lst):
+    """Operations, Table check -> (number, length)."""
+    number = early_table_refusal(entries, working, lst)
+    if number != ACCEPTED:
+        return number, 0
+    best = best_totals(entries)
+    working[:len(best)] = best
+    if best[-1] <= entries[-1]:
+        return ACCEPTED, 0
+    found = counterexample(entries, best)
+    lst[:len(found)] = found
+    return NOT_DUAL_FEASIBLE, len(found)
+
+
+# 01, Jobs: the fields
+
+def number_of(part):
+    """Words: unsigned, high byte first."""
+    return int.from_bytes(part, "big")
+
+
+def numbers_of(value):
+    """Jobs: the four-byte numbers of a value."""
+    return [number_of(value[i:i + 4]) for i in range(0, len(value), 4)]
+
+
+def tag_in_place(before, tag):
+    """Jobs: tag may follow this many fields; refusal 14 if not."""
+    if before < 3:
+        return tag == (KIND, CAPACITY, SIZES)[before]
+    return tag in (FAMILY_STEP, TABLE_STEP) and before < 3 + 8
+
+
+def length_right(tag, length):
+    """Jobs: the lengths of the tags; refusal 15 if wrong."""
+    if tag == KIND:
+        return length == 1
+    if tag == CAPACITY:
+        return length == 4
+    if tag == SIZES:
+        return length % 4 == 0 and length <= 4 * 2048
+    if tag == FAMILY_STEP:
+        return length == 9
+    return 8 <= length <= 8192 and length % 4 == 0
+
+
+def read_fields(data):
+    """Operations, Job: each field in turn -> (number, list of (tag, value))."""
+    fields = []
+    rest = data
+    while len(rest) > 0:
+        if len(rest) < 3:
+            return PAST_THE_END, []
+        tag, length = rest[0], number_of(rest[1:3])
+        if len(rest) < 3 + length:
+            return PAST_THE_END, []
+        if not tag_in_place(len(fields), tag):
+            return BAD_TAG, []
+        if not length_right(tag, length):
+            return BAD_LENGTH, []
+        fields.append((tag, rest[3:3 + length]))
+        rest = rest[3 + length:]
+    if len(fields) < 3:
+        return BAD_TAG, []
+    return ACCEPTED, fields
+
+
+# 01, Jobs: the steps. Each gives (number, length, images, scale).
+
+def family_step(value, capacity, images):
+    """Jobs, tag 4."""
+    family, p, q = value[0], number_of(value[1:5]), number_of(value[5:9])
+    number = family_refusal(capacity, family, p, q)
+    if number != ACCEPTED:
+        return number, 0, [], 0
+    after = [family_image(capacity, family, p, q, x) for x in images]
+    return ACCEPTED, 0, after, family_scale(capacity, family, p, q)
+
+
+def table_step(value, capacity, images, working, lst):
+    """Jobs, tag 5."""
+    entries = numbers_of(value)
+    number, length = table_check(entries, working, lst)
+    if number != ACCEPTED:
+        return number, length, [], 0
+    if len(entries) - 1 != capacity:
+        return OTHER_CAPACITY, 0, [], 0
+    return ACCEPTED, 0, [entries[x] for x in images], entries[-1]
+
+
+def take_step(field, capacity, images, working, lst):
+    """Jobs: one step of either tag."""
+    tag, value = field
+    if tag == FAMILY_STEP:
+        return family_step(value, capacity, images)
+    return table_step(value, capacity, images, working, lst)
+
+
+# 01, Operations: Job
+
+def list_refusal(kind, capacity, sizes):
+    """Operations, Job: refusals 16, 1 and 17, or 0."""
+    if kind not in (FLOOR, CUT):
+        return BAD_KIND
+    if capacity_refused(capacity):
+        return BAD_CAPACITY
+    if any(size > capacity or (size == 0 and kind == FLOOR) for size in sizes):
+        return BAD_SIZE
+    return ACCEPTED
+
+
+def early_job_refusal(data, images, working, lst):
+    """Operations, Job: refusals 12 and 7, or 0."""
+    if len(data) > 65535:
+        return JOB_TOO_LONG
+    if len(images) < 2048 or len(working) < 2048 or len(lst) < 2047:
+        return SHORT_BUFFER
+    return ACCEPTED
+
+
+def refused(number, step=0, length=0):
+    """Operations: a refused job's answer."""
+    return number, 0, 0, 0, 0, step, length
+
+
+def floor_of(total, scale):
+    """Jobs: the floor."""
+    return up(total, scale)
+
+
+def accepted(kind, present, scale):
+    """Operations, Job: an accepted job's answer."""
+    if kind == CUT:
+        return ACCEPTED, len(present), 0, 0, scale, 0, 0
+    total = sum(present)
+    return ACCEPTED, len(present), floor_of(total, scale), total, scale, 0, 0
+
+
+def job(data, images, working, lst):
+    """Operations, Job -> (number, n, floor, sum, scale, step, length)."""
+    number = early_job_refusal(data, images, working, lst)
+    if number != ACCEPTED:
+        return refused(number)
+    number, fields = read_fields(data)
+    if number != ACCEPTED:
+        return refused(number)
+    kind, scale = number_of(fields[0][1]), number_of(fields[1][1])
+    present = numbers_of(fields[2][1])
+    number = list_refusal(kind, scale, present)
+    if number != ACCEPTED:
+        return refused(number)
+    for place, field in enumerate(fields[3:], start=1):
+        number, length, present, scale = take_step(field, scale, present, working, lst)
+        if number != ACCEPTED:
+            return refused(number, place, length)
+    images[:len(present)] = present
+    return accepted(kind, present, scale)
+
+
+# 01, Operations: Sweep
+
+def sweep_refusal(capacity, family, sizes, low, high):
+    """Operations, Sweep: refusals 1, 2, 6, 17 and 19, or 0."""
+    if capacity_refused(capacity):
+        return BAD_CAPACITY
+    if not 1 <= family <= 5:
+        return BAD_FAMILY
+    if len(sizes) > 2048:
+        return BAD_COUNT
+    if any(size == 0 or size > capacity for size in sizes):
+        return BAD_SIZE
+    if low > high or high - low > 4095:
+        return BAD_RANGE
+    return ACCEPTED
+
+
+def one_step_floor(capacity, family, p, sizes):
+    """Operations, Sweep: the floor of one family step."""
+    total = sum(family_image(capacity, family, p, 0, x) for x in sizes)
+    return floor_of(total, family_scale(capacity, family, p, 0))
+
+
+def sweep(capacity, family, sizes, low, high):
+    """Operations, Sweep -> (number, floor, p)."""
+    number = sweep_refusal(capacity, family, sizes, low, high)
+    if number != ACCEPTED:
+        return number, 0, 0
+    floors = [(one_step_floor(capacity, family, p, sizes), p)
+              for p in range(low, high + 1)
+              if family_refusal(capacity, family, p, 0) == ACCEPTED]
+    if not floors:
+        return NO_LEGAL_P, 0, 0
+    largest = max(floor for floor, p in floors)
+    return ACCEPTED, largest, min(p for floor, p in floors if floor == largest)
+
+
+# 01, The hand-over program
+
+def line(word, values):
+    """The hand-over program: one space before each value."""
+    return word + "".join(" %d" % value for value in values) + "\n"
+
+
+def program(data):
+    """The hand-over program: what it prints for a job."""
+    images, working, lst = [0] * 2048, [0] * 2048, [0] * 2047
+    number, n, floor, total, scale, step, length = job(data, images, working, lst)
+    if number != ACCEPTED:
+        text = line("refused", [number, step])
+        if number == NOT_DUAL_FEASIBLE:
+            text += line("list", lst[:length])
+        return text.encode()
+    text = line("scale", [scale]) + line("images", images[:n])
+    if data[3] == FLOOR:  # an accepted job has its kind there
+        text = line("floor", [floor]) + line("sum", [total]) + text
+    return text.encode()
+
+
+if __name__ == "__main__":
+    sys.stdout.buffer.write(program(sys.stdin.buffer.read()))
