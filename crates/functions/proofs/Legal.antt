@@ -2,7 +2,7 @@
 use mathlib.Core.Path.{_≡_}
 use mathlib.Core.Bool.{Bool, true, false, cond, not, _&&_, _||_, and-eq-true-iff, or-true}
 use mathlib.Core.Logic.{_⊎_, inl, inr, ⊎-elim}
-use Prim.Native.Nat.{ℕ, zero, suc, _+_, _-_, _*_, _/_, _%_, _≤_, _<_}
+use Prim.Native.Nat.{ℕ, zero, suc, _+_, _-_, _*_, _%_, _≤_, _<_}
 use native.Mathlib.Nat.{mod-lt, mul-le-mul-right}
 use native.Mathlib.Omega.{arith}
 use borrow.Author.Tests.{leb-true, ltb-true, ltb-false, eqb-true, le-leb, lt-ltb, le-ltb, eq-eqb, not-false}
@@ -33,10 +33,14 @@ both-le a b m n e =
     let parts = both (leb a b) (leb m n) e in
     (leb-true a b (parts .0), leb-true m n (parts .1))
 
-passed : (b : Bool) (number rest : ℕ) → 0 < number → cond (not b) number rest ≡ 0 → (b ≡ true) × (rest ≡ 0)
+pub passed : (b : Bool) (number rest : ℕ) → 0 < number → cond (not b) number rest ≡ 0 → (b ≡ true) × (rest ≡ 0)
 passed b number rest l e =
     let n = not-refused (not b) number rest l e in
     (not-false b (n .0), n .1)
+
+pub capacity-bounds : (c : ℕ) → capacityFits c ≡ true → (1 ≤ c) × (c ≤ limit)
+unfolding capacityFits
+capacity-bounds c e = both-le 1 c c limit e
 
 pub record Accepted (c family p q : ℕ) : Type 0 where
   pub capacity-positive : 1 ≤ c
@@ -47,12 +51,12 @@ pub record Accepted (c family p q : ℕ) : Type 0 where
   pub scale-within-limit : familyScale c family p q ≤ limit
 
 pub accepted : (c family p q : ℕ) → familyRefusal c family p q ≡ 0 → Accepted c family p q
-unfolding familyRefusal capacityFits isFamily
+unfolding familyRefusal isFamily
 accepted c family p q e =
     let one = passed (capacityFits c) 1 _ (omega arith) e in
     let two = passed (isFamily family) 2 _ (omega arith) (one .1) in
     let three = passed (legal c family p q) 3 _ (omega arith) (two .1) in
-    let capacity = both-le 1 c c limit (one .0) in
+    let capacity = capacity-bounds c (one .0) in
     let byte = both-le 1 family family 7 (two .0) in
     record {
       capacity-positive = capacity .0;
@@ -62,6 +66,17 @@ accepted c family p q e =
       is-legal = three .0;
       scale-within-limit = ltb-false limit (familyScale c family p q) (not-refused _ 4 0 (omega arith) (three .1) .0);
     }
+
+pub family-refusal-most : (c family p q : ℕ) → familyRefusal c family p q ≤ 4
+unfolding familyRefusal
+family-refusal-most c family p q = most (capacityFits c) (isFamily family) (legal c family p q) (ltb limit (familyScale c family p q))
+  where
+    most : (a b d e : Bool) → cond (not a) 1 (cond (not b) 2 (cond (not d) 3 (cond e 4 0))) ≤ 4
+    most false b d e = omega arith
+    most true false d e = omega arith
+    most true true false e = omega arith
+    most true true true true = omega arith
+    most true true true false = omega arith
 
 -- the limits of an accepted step's numbers
 pub record Within (c p q : ℕ) : Type 0 where

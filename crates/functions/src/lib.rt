@@ -8,7 +8,7 @@ ghost use mathlib.Core.Path.{_≡_};
 ghost use mathlib.Core.List.{map};
 ghost use Prim.Native.Nat.{_≤_};
 ghost use Rattle.functions.specs.Words.{capacityFits};
-ghost use Rattle.functions.specs.Families.{familyImage};
+ghost use Rattle.functions.specs.Families.{familyImage, quotientUp};
 ghost use Rattle.functions.specs.Image.{familyRefusal, familyAnswer, imageAnswer, imageField, mappedSizes};
 
 // The greatest capacity, parameter, scale and table entry.
@@ -143,4 +143,17 @@ pub fn map_family(capacity: u64, family: u8, p: u64, q: u64, list: &mut [u32]) -
         map_accepted(capacity, family, p, q, list);
     }
     judged
+}
+
+// The quotient rounded up, for the crates above.
+pub fn quotient_up(a: u64, b: u64) -> u64
+    ensures { λ r. ⌜ r ≡ quotientUp a b ⌝ }
+{
+    if b == 0 {
+        return 0;
+    }
+    if 18_446_744_073_709_551_615 - b < a {
+        return 0;
+    }
+    formula::round_up(a, b)
 }

@@ -1,8 +1,8 @@
 -- Tags 1, 2 and 3: the fields at the head of a job.
 use mathlib.Core.Path.{_≡_, refl, ap, ap₂, sym, _∙_}
-use mathlib.Core.Bool.{Bool, true, false, cond, _&&_, and-eq-true-iff}
-use mathlib.Core.List.{List, [], _∷_, _++_}
-use mathlib.Core.Logic.{_⊎_, inl, inr, ⊎-elim}
+use mathlib.Core.Bool.{Bool, true, false, and-eq-true-iff}
+use mathlib.Core.List.{List}
+use mathlib.Core.Logic.{_⊎_, ⊎-elim}
 use Prim.Native.Nat.{ℕ, suc, _+_, _-_, _%_, _≤_, _<_}
 use native.Mathlib.Nat.{eq-zero-or-pos}
 use native.Mathlib.Omega.{arith}
@@ -10,8 +10,8 @@ use borrow.Author.Tests.{eqb-true, leb-true, eq-eqb, ne-eqb, lt-ltb}
 use lib.Dec.{eqb, leb}
 use lib.ListN.{length, take, drop, length-drop}
 use lib.Seq.{drop-drop}
-use Rattle.jobs.specs.Fields.{Field, Fields, refused, complete, prepend, tagInPlace, lengthRight, fieldTag, fieldLength, fieldRefusal, fieldRest, fieldValue, firstField, readRest, jobFields}
-use Rattle.jobs.specs.Record.{headRefusal, stepFields, readingOf, jobReading, StepsWithin, ReadWithin}
+use Rattle.jobs.specs.Fields.{Field, Fields, refused, prepend, tagInPlace, lengthRight, fieldTag, fieldLength, fieldRefusal, fieldRest, fieldValue, firstField, readRest, jobFields}
+use Rattle.jobs.specs.Record.{headRefusal, readingOf, fieldsRead, jobReading, ReadWithin}
 use Rattle.jobs.specs.declared.JobRead.{JobRead}
 use Rattle.jobs.specs.declared.StepsRead.{StepsRead}
 use Rattle.jobs.proofs.Reading.{within-facts, value-within, rest-within}
@@ -161,7 +161,7 @@ module _ (job : List ℕ) where
         sizes-read = capacity-read ∙ ap (λ (r : Fields). prepend kind-field (prepend capacity-field r)) (head-read job 11 2 (fieldLength (drop 11 job)) (omega arith) h3 refl capacity-room)
 
         pub jobs-read : (n : ℕ) (r : StepsRead) → n ≡ fieldLength (drop 11 job) → readRest 3 (drop (14 + n) job) ≡ readingOf job r → jobFields job ≡ jobReading job (record { number = r .number; sizes = n; steps = r .steps })
-        unfolding prepend readingOf jobReading kind-field capacity-field sizes-field
+        unfolding prepend readingOf fieldsRead jobReading kind-field capacity-field sizes-field
         jobs-read n r is e = go (eqb (r .number) 0) refl
           where
             steps : readRest 3 (drop (14 + fieldLength (drop 11 job)) job) ≡ readingOf job r

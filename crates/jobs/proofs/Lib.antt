@@ -9,3 +9,7 @@ pub mod SizeTests
 pub mod Judging
 pub mod Present
 pub mod Applying
+pub mod Judged
+pub mod Finishing
+pub mod Answering
+pub mod Outside

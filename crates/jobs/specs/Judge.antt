@@ -1,9 +1,9 @@
 -- The steps of a job judged in order, document 01, "Operations and what they refuse", Job.
 use mathlib.Core.Bool.{cond}
 use mathlib.Core.List.{List, [], _∷_}
-use Prim.Native.Nat.{ℕ, suc}
+use Prim.Native.Nat.{ℕ, suc, _-_}
 use lib.Dec.{eqb}
-use lib.ListN.{length}
+use lib.ListN.{length, getD}
 use Rattle.tables.specs.Table.{counterexample}
 use Rattle.jobs.specs.Chain.{Step, onFamily, onTable, stepScale, stepRefusal, chainScale}
 use Rattle.jobs.specs.declared.StepAnswer.{StepAnswer}
@@ -36,6 +36,14 @@ judgeChain c k (s ∷ steps) =
     cond (eqb (stepRefusal c s) 0)
     (judgeChain (stepScale c s) (suc k) steps)
     (record { number = stepRefusal c s; step = suc k; list = stepList (stepRefusal c s) s })
+
+-- the entries of the table at a place of the chain, counted from 1
+unfoldable pub stepEntries : Step → List ℕ
+stepEntries (onFamily family p q) = []
+stepEntries (onTable t) = t
+
+unfoldable pub entriesAt : List Step → ℕ → List ℕ
+entriesAt steps place = stepEntries (getD steps (place - 1) (onTable []))
 
 -- the verdict on a chain
 unfoldable pub verdictOf : ℕ → List Step → Verdict

@@ -4,3 +4,4 @@ pub mod Fields
 pub mod Record
 pub mod Sizes
 pub mod Judge
+pub mod Job

@@ -1,5 +1,5 @@
 -- What the record of a job's steps stands for: fields of the job.
-use mathlib.Core.Bool.{Bool, true, cond}
+use mathlib.Core.Bool.{true, cond}
 use mathlib.Core.Path.{_≡_}
 use mathlib.Core.List.{List, _∷_, map}
 use Prim.Native.Nat.{ℕ, _+_, _%_, _≤_, _<_}
@@ -38,15 +38,15 @@ pub record StepsWithin (job : List ℕ) (steps : JobSteps) : Type 0 where
   pub each : (i : ℕ) → i < steps .count → StepWithin job (getD (steps .items) i (record { tag = 0; at = 0; len = 0 }))
 
 -- the fields of a job that was read: tags 1, 2 and 3 at fixed places, the third of r .sizes bytes, and the steps
-unfoldable pub jobReading : List ℕ → JobRead → Fields
-jobReading job r =
-    cond (eqb (r .number) 0)
-    (complete
-    (record { tag = 1; value = take 1 (drop 3 job) }
+unfoldable pub fieldsRead : List ℕ → JobRead → List Field
+fieldsRead job r =
+    record { tag = 1; value = take 1 (drop 3 job) }
     ∷ record { tag = 2; value = take 4 (drop 7 job) }
     ∷ record { tag = 3; value = take (r .sizes) (drop 14 job) }
-    ∷ stepFields job (r .steps)))
-    (refused (r .number))
+    ∷ stepFields job (r .steps)
+
+unfoldable pub jobReading : List ℕ → JobRead → Fields
+jobReading job r = cond (eqb (r .number) 0) (complete (fieldsRead job r)) (refused (r .number))
 
 pub record ReadWithin (job : List ℕ) (r : JobRead) : Type 0 where
   pub sizes-within : 14 + r .sizes ≤ length job

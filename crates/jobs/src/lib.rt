@@ -1,9 +1,17 @@
 // Jobs: chains of steps over a list of sizes or a row.
+mod answer;
 mod apply;
 mod field;
 mod judge;
 mod list;
 mod parse;
+
+ghost use mathlib.Core.Path.{_≡_};
+ghost use lib.ListN.{length, take};
+ghost use Rattle.tables.specs.Promise.{Overshoots};
+ghost use Rattle.jobs.specs.Fields.{jobFields, jobSteps};
+ghost use Rattle.jobs.specs.Job.{fieldsOf, jobAnswer, imagesAfter, listAfterJob, JobSafe};
+ghost use Rattle.jobs.specs.Judge.{entriesAt};
 
 // A step of a job: its tag, and the place and length of its value in the job.
 pub struct JobStep {
@@ -46,4 +54,55 @@ pub struct Verdict {
     pub step: u64,
     pub scale: u64,
     pub length: u64,
+}
+
+// The answer to a job: the number that refuses it, or 0 with the number of sizes, the lower bound on
+// bins, the sum of images and the scale; the place of a refused step, and the length of the list.
+#[repr(C)]
+pub struct JobAnswer {
+    pub number: u64,
+    pub n: u64,
+    pub floor: u64,
+    pub sum: u64,
+    pub scale: u64,
+    pub step: u64,
+    pub length: u64,
+}
+
+// The job operation: a job is judged whole before any image is written. `images` and `working` have
+// 2,048 places, `list` has 2,047.
+#[no_mangle]
+pub extern "C" fn windowfloor_job(
+    job: &[u8],
+    images: &mut [u32],
+    working: &mut [u64],
+    list: &mut [u32],
+) -> JobAnswer
+    ensures answer { λ r. ⌜ r ≡ jobAnswer (now (job .entry)) (length (now (images .entry))) (length (now (working .entry))) (length (now (list .entry))) ⌝ }
+    ensures images { λ _. ⌜ now (images .exit) ≡ imagesAfter (now (job .entry)) (now (images .entry)) (length (now (working .entry))) (length (now (list .entry))) ⌝ }
+    ensures list { λ _. ⌜ now (list .exit) ≡ listAfterJob (now (job .entry)) (length (now (images .entry))) (length (now (working .entry))) (now (list .entry)) ⌝ }
+    ensures working { λ _. ⌜ length (now (working .exit)) ≡ length (now (working .entry)) ⌝ }
+    ensures overshoots { λ r. ⌜ (r .number ≡ 11 → Overshoots (entriesAt (jobSteps (fieldsOf (jobFields (now (job .entry))))) (r .step)) (take (r .length) (now (list .exit)))) ⌝ }
+    ensures safe { λ r. ⌜ (r .number ≡ 0 → JobSafe (now (job .entry)) r (now (images .exit))) ⌝ }
+{
+    let short = answer::refuse_buffers(job.len(), images.len(), working.len(), list.len());
+    if short != 0 {
+        return answer::refused(short, 0, 0);
+    }
+    let read = parse::read_job(job);
+    if read.number != 0 {
+        return answer::refused(read.number, 0, 0);
+    }
+    let number = answer::refuse_list(job, read.sizes);
+    if number != 0 {
+        return answer::refused(number, 0, 0);
+    }
+    let capacity = field::word_at(job, 7);
+    let steps = read.steps;
+    let verdict = judge::judge_steps(job, steps, capacity, working, list);
+    if verdict.number != 0 {
+        return answer::refused(verdict.number, verdict.step, verdict.length);
+    }
+    let n = read.sizes / 4;
+    answer::finish(job, read, capacity, verdict.scale, &mut images[..n])
 }

@@ -40,7 +40,7 @@ pub(crate) fn sizes_within(bytes: &[u8], n: usize, least: u64, capacity: u64) ->
 
 pub(crate) fn sum_of(list: &[u32]) -> u64
     requires { ⌜ length (now list) ≤ 2048 ⌝ }
-    ensures { λ r. ⌜ r ≡ total (now (list .entry)) ⌝ }
+    ensures { λ r. ⌜ (r ≡ total (now (list .entry))) × (r ≤ 2048 * 4294967296) ⌝ }
 {
     let mut sum = 0;
     let mut i = 0;

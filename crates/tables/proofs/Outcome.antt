@@ -1,22 +1,22 @@
 -- The table check's answer and buffers, for each way that it ends.
 use mathlib.Core.Path.{_≡_, refl, ap, sym, _∙_}
 use mathlib.Core.Bool.{Bool, true, false, cond, not, _||_, true≢false}
-use mathlib.Core.List.{List, [], _∷_, _++_, reverse}
+use mathlib.Core.List.{List, _++_, reverse}
 use Prim.Native.Nat.{ℕ, _+_, _-_, _≤_, _<_}
 use native.Mathlib.Omega.{arith}
-use borrow.Author.Tests.{ltb-false, le-ltb, eq-eqb, ne-eqb}
+use borrow.Author.Tests.{ltb-false, le-ltb, ne-eqb}
 use lib.Dec.{ltb, eqb}
 use lib.ListN.{length, getD, take, drop}
 use lib.Seq.{take-at}
 use Rattle.functions.specs.Promise.{StepPromise}
-use Rattle.functions.proofs.Cases.{not-refused, then-zero}
+use Rattle.functions.proofs.Cases.{not-refused, then-zero, then-other}
 use Rattle.tables.specs.Table.{entry, tableCapacity, tableScale, best, bests, counterexample}
 use Rattle.tables.specs.Check.{mostEntries, withinLimit, formRefusal, entriesRefusal, lengthRefusal, tableRefusal, tableAnswer, workingAfter, listAfter}
-use Rattle.tables.specs.Promise.{TableForm, TablePromise, Overshoots}
+use Rattle.tables.specs.Promise.{Overshoots}
 use Rattle.tables.specs.declared.TableAnswer.{TableAnswer}
-use Rattle.tables.proofs.Promise.{accepted, refuted, overshoots, table-promise}
+use Rattle.tables.proofs.Promise.{accepted, refuted, overshoots, counterexample-promise, table-promise}
 
-neither : (a b : Bool) → a || b ≡ false → (a ≡ false) × (b ≡ false)
+pub neither : (a b : Bool) → a || b ≡ false → (a ≡ false) × (b ≡ false)
 neither true b e = absurd (true≢false e)
 neither false b e = (refl, e)
 
@@ -148,3 +148,10 @@ entry-is t x = refl
 pub capacity-is : (t : List ℕ) → tableCapacity t ≡ length t - 1
 unfolding tableCapacity
 capacity-is t = refl
+
+-- 11, whatever the buffers' lengths: the counterexample is one
+pub checked-overshoots : (t : List ℕ) (w l : ℕ) → tableRefusal t w l ≡ 11 → Overshoots t (counterexample t)
+unfolding tableRefusal entriesRefusal
+checked-overshoots t w l e =
+    let entries = then-other (lengthRefusal (length t) w l) (entriesRefusal t) 11 (length-below (length t) w l) e .1 in
+    counterexample-promise t (then-other (formRefusal t) _ 11 (form-below t) entries .0) entries

@@ -1,5 +1,5 @@
 -- `sum_of` meets its contract: the sum so far and the total of what is left are the whole total.
-use mathlib.Core.Path.{_≡_, refl, sym, ap, _∙_}
+use mathlib.Core.Path.{_≡_, ap}
 use Prim.Native.Nat.{_+_, _-_, _*_, _≤_}
 use native.Mathlib.Numerals.{add-one}
 use native.Mathlib.Omega.{arith}
@@ -48,7 +48,7 @@ unfolding total
 returns c =
     let loop = c .before .loop in
     let none = ap total (drop-of-length-le (c .before .before .args .list .now) {i = loop .i} (c .loop-test .left)) in
-    omega (arith, none, loop .inv .2)
+    (omega (arith, none, loop .inv .2), omega arith)
 
 pub sum-of-spec : {M : Type 1} → statement M
 sum-of-spec =

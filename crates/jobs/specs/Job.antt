@@ -1,0 +1,89 @@
+-- The job operation of document 01, "Operations and what they refuse": the answer, and what the lent buffers hold afterwards.
+use mathlib.Core.Bool.{cond, _||_}
+use mathlib.Core.Path.{_≡_}
+use mathlib.Core.List.{List, [], _++_, map}
+use Prim.Native.Nat.{ℕ, _≤_}
+use lib.Dec.{ltb, eqb}
+use lib.ListN.{length, take, drop}
+use Rattle.functions.specs.Words.{total}
+use Rattle.jobs.specs.Chain.{chainImage, chainScale, chainFloor}
+use Rattle.jobs.specs.Packing.{Fits, binsUsed, weighted}
+use Rattle.jobs.specs.Fields.{Field, Fields, refused, complete, jobFields, jobKind, jobCapacity, jobSizes, jobSteps}
+use Rattle.jobs.specs.Sizes.{listRefusal}
+use Rattle.jobs.specs.Judge.{Refusal, judgeChain}
+use Rattle.jobs.specs.declared.JobAnswer.{JobAnswer}
+
+-- a refusal outside the steps
+unfoldable pub plain : ℕ → Refusal
+plain number = record { number = number; step = 0; list = [] }
+
+-- kind, capacity and sizes, and then the steps in order
+unfoldable pub judgeFields : List Field → Refusal
+judgeFields fields =
+    cond (eqb (listRefusal (jobKind fields) (jobCapacity fields) (jobSizes fields)) 0)
+    (judgeChain (jobCapacity fields) 0 (jobSteps fields))
+    (plain (listRefusal (jobKind fields) (jobCapacity fields) (jobSizes fields)))
+
+unfoldable pub judgeReading : Fields → Refusal
+judgeReading (refused number) = plain number
+judgeReading (complete fields) = judgeFields fields
+
+-- the fields of a job that is complete
+unfoldable pub fieldsOf : Fields → List Field
+fieldsOf (refused number) = []
+fieldsOf (complete fields) = fields
+
+-- refusals 12 and 7, by the bytes of the job and the places of the image, working and list buffers
+unfoldable pub bufferRefusal : ℕ → ℕ → ℕ → ℕ → ℕ
+bufferRefusal bytes images working list =
+    cond (ltb 65535 bytes) 12
+    (cond (ltb images 2048 || ltb working 2048 || ltb list 2047) 7 0)
+
+unfoldable pub judgeJob : List ℕ → ℕ → ℕ → ℕ → Refusal
+judgeJob job images working list =
+    cond (eqb (bufferRefusal (length job) images working list) 0)
+    (judgeReading (jobFields job))
+    (plain (bufferRefusal (length job) images working list))
+
+-- the images through all steps
+unfoldable pub jobImages : List Field → List ℕ
+jobImages fields = map (chainImage (jobCapacity fields) (jobSteps fields)) (jobSizes fields)
+
+-- the answer to a job that is accepted; a cut has no floor and no sum
+unfoldable pub acceptedAnswer : List Field → JobAnswer
+acceptedAnswer fields =
+    record {
+      number = 0;
+      n = length (jobSizes fields);
+      floor = cond (eqb (jobKind fields) 1) (chainFloor (jobCapacity fields) (jobSteps fields) (jobSizes fields)) 0;
+      sum = cond (eqb (jobKind fields) 1) (total (jobImages fields)) 0;
+      scale = chainScale (jobCapacity fields) (jobSteps fields);
+      step = 0;
+      length = 0;
+    }
+
+unfoldable pub refusedAnswer : Refusal → JobAnswer
+refusedAnswer r = record { number = r .number; n = 0; floor = 0; sum = 0; scale = 0; step = r .step; length = length (r .list) }
+
+unfoldable pub jobAnswer : List ℕ → ℕ → ℕ → ℕ → JobAnswer
+jobAnswer job images working list =
+    cond (eqb (judgeJob job images working list .number) 0)
+    (acceptedAnswer (fieldsOf (jobFields job)))
+    (refusedAnswer (judgeJob job images working list))
+
+-- the image buffer afterwards: the first n places, unless the job is refused
+unfoldable pub imagesAfter : List ℕ → List ℕ → ℕ → ℕ → List ℕ
+imagesAfter job images working list =
+    cond (eqb (judgeJob job (length images) working list .number) 0)
+    (jobImages (fieldsOf (jobFields job)) ++ drop (length (jobSizes (fieldsOf (jobFields job)))) images)
+    images
+
+-- the list buffer afterwards: changed only by 11
+unfoldable pub listAfterJob : List ℕ → ℕ → ℕ → List ℕ → List ℕ
+listAfterJob job images working list =
+    judgeJob job images working (length list) .list ++ drop (length (judgeJob job images working (length list) .list)) list
+
+-- P4: what an accepted job answers is safe for its own list, or holds for its own row. `images` is the image buffer afterwards
+pub record JobSafe (job : List ℕ) (answer : JobAnswer) (images : List ℕ) : Type 0 where
+  pub floor-is-safe : jobKind (fieldsOf (jobFields job)) ≡ 1 → (bins : List ℕ) → Fits (jobCapacity (fieldsOf (jobFields job))) (jobSizes (fieldsOf (jobFields job))) bins → answer .floor ≤ binsUsed bins
+  pub cut-holds : jobKind (fieldsOf (jobFields job)) ≡ 2 → (counts : List ℕ) → length counts ≡ answer .n → weighted counts (jobSizes (fieldsOf (jobFields job))) ≤ jobCapacity (fieldsOf (jobFields job)) → weighted counts (take (answer .n) images) ≤ answer .scale

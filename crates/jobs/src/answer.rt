@@ -1,0 +1,125 @@
+// A job that was read: judged, and only then applied.
+use crate::JobAnswer;
+use crate::JobRead;
+use crate::apply;
+use crate::field;
+use crate::list;
+ghost use mathlib.Core.Path.{_≡_};
+ghost use Prim.Native.Nat.{_+_, _*_, _%_, _≤_};
+ghost use lib.ListN.{length, getD, take, drop};
+ghost use Rattle.jobs.specs.Chain.{chainScale};
+ghost use Rattle.jobs.specs.Fields.{word, words, jobCapacity};
+ghost use Rattle.jobs.specs.Job.{judgeFields, jobImages, acceptedAnswer, bufferRefusal};
+ghost use Rattle.jobs.specs.Record.{fieldsRead, ReadWithin, stepsIn};
+ghost use Rattle.jobs.specs.Sizes.{isKind, leastOf, listRefusal};
+
+fn is_kind(kind: u8) -> bool
+    ensures { λ r. ⌜ r ≡ isKind kind ⌝ }
+{
+    if kind == 1 {
+        return true;
+    }
+    kind == 2
+}
+
+fn least_of(kind: u8) -> u64
+    ensures { λ r. ⌜ r ≡ leastOf kind ⌝ }
+{
+    if kind == 1 {
+        return 1;
+    }
+    0
+}
+
+// Refusals 16, 1 and 17: kind at place 3, capacity at 7, the bytes of the sizes from 14 on.
+pub(crate) fn refuse_list(job: &[u8], sizes: usize) -> u64
+    requires { ⌜ (14 + sizes ≤ length (now job)) × (sizes % 4 ≡ 0) ⌝ }
+    ensures { λ r. ⌜ r ≡ listRefusal (getD (now (job .entry)) 3 0) (word (now (job .entry)) 7) (words (take sizes (drop 14 (now (job .entry))))) ⌝ }
+{
+    let kind = job[3];
+    let capacity = field::word_at(job, 7);
+    if !is_kind(kind) {
+        return 16;
+    }
+    if !functions::capacity_fits(capacity) {
+        return 1;
+    }
+    let end = 14 + sizes;
+    let least = least_of(kind);
+    if !list::sizes_within(&job[14..end], sizes / 4, least, capacity) {
+        return 17;
+    }
+    0
+}
+
+// The images and the answer of an accepted job, whose numbers of sizes and places of `images` are the same.
+pub(crate) fn finish(
+    job: &[u8],
+    read: JobRead,
+    capacity: u64,
+    scale: u64,
+    images: &mut [u32],
+) -> JobAnswer
+    requires { ⌜ (ReadWithin (now job) read) × (judgeFields (fieldsRead (now job) read) .number ≡ 0) × (capacity ≡ jobCapacity (fieldsRead (now job) read)) × (scale ≡ chainScale capacity (stepsIn (now job) (read .steps))) × (read .sizes ≡ 4 * length (now images)) ⌝ }
+    ensures { λ r. ⌜ (r ≡ acceptedAnswer (fieldsRead (now (job .entry)) read)) × (now (images .exit) ≡ jobImages (fieldsRead (now (job .entry)) read)) ⌝ }
+{
+    let end = 14 + read.sizes;
+    let steps = read.steps;
+    list::decode_words(&job[14..end], images);
+    apply::apply_steps(job, steps, capacity, images);
+    let n = images.len() as u64;
+    if job[3] == 1 {
+        let sum = list::sum_of(images);
+        return JobAnswer {
+            number: 0,
+            n,
+            floor: functions::quotient_up(sum, scale),
+            sum,
+            scale,
+            step: 0,
+            length: 0,
+        };
+    }
+    JobAnswer {
+        number: 0,
+        n,
+        floor: 0,
+        sum: 0,
+        scale,
+        step: 0,
+        length: 0,
+    }
+}
+
+pub(crate) fn refused(number: u64, step: u64, length: u64) -> JobAnswer
+    ensures { λ r. ⌜ r ≡ record { number = number; n = 0; floor = 0; sum = 0; scale = 0; step = step; length = length } ⌝ }
+{
+    JobAnswer {
+        number,
+        n: 0,
+        floor: 0,
+        sum: 0,
+        scale: 0,
+        step,
+        length,
+    }
+}
+
+// Refusals 12 and 7.
+pub(crate) fn refuse_buffers(bytes: usize, images: usize, working: usize, list: usize) -> u64
+    ensures { λ r. ⌜ r ≡ bufferRefusal bytes images working list ⌝ }
+{
+    if 65_535 < bytes {
+        return 12;
+    }
+    if images < 2_048 {
+        return 7;
+    }
+    if working < 2_048 {
+        return 7;
+    }
+    if list < 2_047 {
+        return 7;
+    }
+    0
+}
