@@ -4,12 +4,11 @@ writes nothing and fails if a stored file differs."""
 
 import random
 import sys
-from pathlib import Path
 
 sys.dont_write_bytecode = True
 import windowfloor as wf
+from case_files import lines, store_or_check
 
-FOLDER = Path(__file__).resolve().parents[2] / "crates" / "cases"
 TOTAL = 690
 FAMILIES = range(1, 8)
 LIMIT = 1_000_000_000
@@ -138,23 +137,9 @@ def all_cases():
     return list(cases)
 
 
-def lines(rows):
-    return "".join(" ".join(map(str, row)) + "\n" for row in rows)
-
-
 def main():
     cases = all_cases()
-    texts = {"stdin": lines(cases), "stdout": lines(wf.image(*case) for case in cases)}
-    status = 0
-    for name, text in texts.items():
-        path = FOLDER / name
-        if "--check" not in sys.argv[1:]:
-            FOLDER.mkdir(parents=True, exist_ok=True)
-            path.write_bytes(text.encode())
-        elif not path.is_file() or path.read_bytes() != text.encode():
-            print("differs: crates/cases/" + name)
-            status = 1
-    return status
+    return store_or_check("cases", lines(cases), lines(wf.image(*case) for case in cases))
 
 
 if __name__ == "__main__":

@@ -10,12 +10,11 @@ buffer 900,000 + i."""
 
 import random
 import sys
-from pathlib import Path
 
 sys.dont_write_bytecode = True
 import windowfloor as wf
+from case_files import lines, store_or_check
 
-FOLDER = Path(__file__).resolve().parents[2] / "crates" / "table_cases"
 RANDOM = 150
 LIMIT = 1_000_000_000
 MAX = 2**32 - 1
@@ -206,23 +205,9 @@ def answer(case):
     return (number, length, checksum(working), checksum(listed)) + tuple(listed[:length])
 
 
-def lines(rows):
-    return "".join(" ".join(map(str, row)) + "\n" for row in rows)
-
-
 def main():
     cases = all_cases()
-    texts = {"stdin": lines(cases), "stdout": lines(answer(case) for case in cases)}
-    status = 0
-    for name, text in texts.items():
-        path = FOLDER / name
-        if "--check" not in sys.argv[1:]:
-            FOLDER.mkdir(parents=True, exist_ok=True)
-            path.write_bytes(text.encode())
-        elif not path.is_file() or path.read_bytes() != text.encode():
-            print("differs: crates/table_cases/" + name)
-            status = 1
-    return status
+    return store_or_check("table_cases", lines(cases), lines(answer(case) for case in cases))
 
 
 if __name__ == "__main__":

@@ -13,42 +13,6 @@ const MOST_ENTRIES: usize = 2_049;
 // The most places of a buffer.
 const MOST_PLACES: usize = 2_100;
 
-const TWO_TO_32: u64 = 4_294_967_296;
-
-fn at_most(value: u64, limit: usize) -> usize
-    ensures { λ r. ⌜ r ≤ limit ⌝ }
-{
-    if value < limit as u64 {
-        value as usize
-    } else {
-        limit
-    }
-}
-
-fn low_bits(value: u64) -> u32 {
-    (value % TWO_TO_32) as u32
-}
-
-// Place i becomes first + i * step, mod 2^32.
-fn fill(places: &mut [u32], first: u32, step: u32) {
-    let mut value = first;
-    let mut i = 0;
-    while i < places.len() {
-        places[i] = value;
-        value = std::num::wrapping_add_u32(value, step);
-        i += 1;
-    }
-}
-
-// Place i becomes 7,000,000,000 + i.
-fn fill_working(working: &mut [u64]) {
-    let mut i = 0;
-    while i < working.len() {
-        working[i] = 7_000_000_000 + i as u64;
-        i += 1;
-    }
-}
-
 // A place behind the table is ignored.
 fn set_entry(table: &mut [u32], place: u64, value: u32) {
     if place < table.len() as u64 {
@@ -66,37 +30,11 @@ fn set_entries(text: &[u8], from: usize, table: &mut [u32], pairs: usize) -> usi
     while i < pairs {
         let place = decimal::number_at(text, at);
         let value = decimal::number_at(text, place.next);
-        set_entry(table, place.value, low_bits(value.value));
+        set_entry(table, place.value, buffers::low_bits(value.value));
         at = value.next;
         i += 1;
     }
     at
-}
-
-// A checksum with one more value, mod 2^32. The value goes in mod a prime, so that its high half
-// counts too.
-fn with_value(sum: u64, value: u64) -> u64 {
-    (sum % TWO_TO_32 * 31 + value % 4_294_967_291) % TWO_TO_32
-}
-
-fn working_sum(working: &[u64]) -> u64 {
-    let mut sum = 0;
-    let mut i = 0;
-    while i < working.len() {
-        sum = with_value(sum, working[i]);
-        i += 1;
-    }
-    sum
-}
-
-fn list_sum(list: &[u32]) -> u64 {
-    let mut sum = 0;
-    let mut i = 0;
-    while i < list.len() {
-        sum = with_value(sum, list[i] as u64);
-        i += 1;
-    }
-    sum
 }
 
 fn write_number(number: u64) {
@@ -106,7 +44,7 @@ fn write_number(number: u64) {
 
 // Writes the first places of a list.
 fn write_list(list: &[u32], count: u64) {
-    let n = at_most(count, list.len());
+    let n = buffers::at_most(count, list.len());
     let mut i = 0;
     while i < n {
         write_number(list[i] as u64);
@@ -120,18 +58,18 @@ fn make_table(text: &[u8], at: usize, table: &mut [u32]) -> usize
 {
     let s = decimal::number_at(text, at);
     let k = decimal::number_at(text, s.next);
-    fill(table, 0, low_bits(s.value));
-    set_entries(text, k.next, table, at_most(k.value, MOST_ENTRIES))
+    buffers::fill(table, 0, buffers::low_bits(s.value));
+    set_entries(text, k.next, table, buffers::at_most(k.value, MOST_ENTRIES))
 }
 
 fn check_table(table: &[u32], working: &mut [u64], list: &mut [u32]) {
-    fill_working(working);
-    fill(list, 900_000, 1);
+    buffers::fill_working(working);
+    buffers::fill(list, 900_000, 1);
     let answer = tables::windowfloor_table_check(table, working, list);
     io::print_decimal(STDOUT_FILENO, answer.number);
     write_number(answer.length);
-    write_number(working_sum(working));
-    write_number(list_sum(list));
+    write_number(buffers::working_sum(working));
+    write_number(buffers::list_sum(list));
     write_list(list, answer.length);
     io::write_all(STDOUT_FILENO, b"\n");
 }
@@ -157,9 +95,9 @@ fn run_case(text: &[u8], at: usize) -> usize
     let n = decimal::number_at(text, at);
     let w = decimal::number_at(text, n.next);
     let l = decimal::number_at(text, w.next);
-    let entries = at_most(n.value, MOST_ENTRIES);
-    let places = at_most(w.value, MOST_PLACES);
-    let sizes = at_most(l.value, MOST_PLACES);
+    let entries = buffers::at_most(n.value, MOST_ENTRIES);
+    let places = buffers::at_most(w.value, MOST_PLACES);
+    let sizes = buffers::at_most(l.value, MOST_PLACES);
     let mut table = [0u32; MOST_ENTRIES];
     let mut working = [0u64; MOST_PLACES];
     let mut list = [0u32; MOST_PLACES];

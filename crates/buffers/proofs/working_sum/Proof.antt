@@ -3,8 +3,8 @@ use Prim.Native.Nat.{_-_, _≤_}
 use native.Mathlib.Omega.{arith}
 use borrow.Author.Needs.{needs}
 use lib.ListN.{length}
-use Rattle.table_cases.proofs.working_sum.Statement.{statement}
-use Rattle.table_cases.proofs.working_sum.Tie as tie
+use Rattle.buffers.proofs.working_sum.Statement.{statement}
+use Rattle.buffers.proofs.working_sum.Tie as tie
 
 abbrev Inv-loop : tie.InvT-loop
 Inv-loop working sum₀ i₀ sum i = i ≤ length working

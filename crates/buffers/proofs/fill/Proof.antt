@@ -4,8 +4,8 @@ use mathlib.Core.Path.{_≡_}
 use native.Mathlib.Omega.{arith}
 use borrow.Author.Needs.{needs}
 use lib.ListN.{length, length-set}
-use Rattle.table_cases.proofs.fill.Statement.{statement}
-use Rattle.table_cases.proofs.fill.Tie as tie
+use Rattle.buffers.proofs.fill.Statement.{statement}
+use Rattle.buffers.proofs.fill.Tie as tie
 
 abbrev Inv-loop : tie.InvT-loop
 Inv-loop places₀ first step value₀ i₀ places value i =

@@ -4,8 +4,8 @@ use mathlib.Core.Path.{_≡_}
 use native.Mathlib.Omega.{arith}
 use borrow.Author.Needs.{needs}
 use lib.ListN.{length, length-set}
-use Rattle.table_cases.proofs.fill_working.Statement.{statement}
-use Rattle.table_cases.proofs.fill_working.Tie as tie
+use Rattle.buffers.proofs.fill_working.Statement.{statement}
+use Rattle.buffers.proofs.fill_working.Tie as tie
 
 abbrev Inv-loop : tie.InvT-loop
 Inv-loop working₀ i₀ working i = (length working ≡ length working₀) × (i ≤ length working₀)

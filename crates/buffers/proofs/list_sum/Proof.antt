@@ -3,8 +3,8 @@ use Prim.Native.Nat.{_-_, _≤_}
 use native.Mathlib.Omega.{arith}
 use borrow.Author.Needs.{needs}
 use lib.ListN.{length}
-use Rattle.table_cases.proofs.list_sum.Statement.{statement}
-use Rattle.table_cases.proofs.list_sum.Tie as tie
+use Rattle.buffers.proofs.list_sum.Statement.{statement}
+use Rattle.buffers.proofs.list_sum.Tie as tie
 
 abbrev Inv-loop : tie.InvT-loop
 Inv-loop list sum₀ i₀ sum i = i ≤ length list
