@@ -34,10 +34,9 @@ pub not-refused : (test : Bool) (number rest : ℕ) → 0 < number → cond test
 not-refused true number rest l e = absurd (omega arith)
 not-refused false number rest l e = (refl, e)
 
--- a number that lets a second one decide where it is 0
-pub then-zero : (n m : ℕ) → cond (eqb n 0) m n ≡ 0 → (n ≡ 0) × (m ≡ 0)
-then-zero n m e = ⊎-elim (λ none. (none, rw (eq-eqb n 0 none) at e)) (λ some. absurd (omega (arith, rw (ne-eqb n 0 (omega arith)) at e))) (eq-zero-or-pos n)
+-- a number that lets a second one decide where it is 0: it is not what came out, so the second is
+pub then-decided : (n m k : ℕ) → (0 < n → n ≡ k → ⊥) → cond (eqb n 0) m n ≡ k → (n ≡ 0) × (m ≡ k)
+then-decided n m k other e = ⊎-elim (λ none. (none, rw (eq-eqb n 0 none) at e)) (λ some. absurd (other some (rw (ne-eqb n 0 (omega arith)) at e))) (eq-zero-or-pos n)
 
--- where the first is below the number that came out, the second decided
-pub then-other : (n m k : ℕ) → n < k → cond (eqb n 0) m n ≡ k → (n ≡ 0) × (m ≡ k)
-then-other n m k l e = ⊎-elim (λ none. (none, rw (eq-eqb n 0 none) at e)) (λ some. absurd (omega (arith, rw (ne-eqb n 0 (omega arith)) at e))) (eq-zero-or-pos n)
+pub then-zero : (n m : ℕ) → cond (eqb n 0) m n ≡ 0 → (n ≡ 0) × (m ≡ 0)
+then-zero n m e = then-decided n m 0 (λ some none. omega arith) e

@@ -9,7 +9,7 @@ use lib.Dec.{ltb, eqb}
 use lib.ListN.{length, getD, take, drop}
 use lib.Seq.{take-at}
 use Rattle.functions.specs.Promise.{StepPromise}
-use Rattle.functions.proofs.Cases.{not-refused, then-zero, then-other}
+use Rattle.functions.proofs.Cases.{not-refused, then-zero, then-decided}
 use Rattle.tables.specs.Table.{entry, tableCapacity, tableScale, best, bests, counterexample}
 use Rattle.tables.specs.Check.{mostEntries, withinLimit, formRefusal, entriesRefusal, lengthRefusal, tableRefusal, tableAnswer, workingAfter, listAfter}
 use Rattle.tables.specs.Promise.{Overshoots}
@@ -153,5 +153,5 @@ capacity-is t = refl
 pub checked-overshoots : (t : List ℕ) (w l : ℕ) → tableRefusal t w l ≡ 11 → Overshoots t (counterexample t)
 unfolding tableRefusal entriesRefusal
 checked-overshoots t w l e =
-    let entries = then-other (lengthRefusal (length t) w l) (entriesRefusal t) 11 (length-below (length t) w l) e .1 in
-    counterexample-promise t (then-other (formRefusal t) _ 11 (form-below t) entries .0) entries
+    let entries = then-decided (lengthRefusal (length t) w l) (entriesRefusal t) 11 (λ some is. omega (arith, is, length-below (length t) w l)) e .1 in
+    counterexample-promise t (then-decided (formRefusal t) _ 11 (λ some is. omega (arith, is, form-below t)) entries .0) entries
