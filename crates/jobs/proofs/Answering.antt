@@ -14,7 +14,7 @@ use Rattle.tables.proofs.Outcome.{neither}
 use Rattle.jobs.specs.Chain.{Step, chainImage, chainScale}
 use Rattle.jobs.specs.Sizes.{listRefusal}
 use Rattle.jobs.specs.Packing.{Fits, binsUsed, ChainPromise}
-use Rattle.jobs.specs.Fields.{word, words, Field, refused, jobFields, jobKind, jobCapacity, jobSizes, jobSteps}
+use Rattle.jobs.specs.Fields.{fieldValue, word, words, Field, refused, jobFields, jobKind, jobCapacity, jobSizes, jobSteps}
 use Rattle.jobs.specs.Judge.{Refusal, judgeChain, verdictOf, entriesAt}
 use Rattle.jobs.specs.Job.{plain, judgeFields, judgeReading, fieldsOf, bufferRefusal, judgeJob, jobImages, acceptedAnswer, refusedAnswer, jobAnswer, imagesAfter, listAfterJob, JobSafe}
 use Rattle.jobs.specs.Record.{fieldsRead, jobReading, stepsIn}
@@ -52,7 +52,7 @@ module _ (job : List ℕ) (i w l : ℕ) where
     unfolding jobReading judgeReading
     reading-passed none = read ∙ rw (eq-eqb (r .number) 0 none)
 
-    module _ (none : r .number ≡ 0) (n : ℕ) (is : n ≡ listRefusal (getD job 3 0) (word job 7) (words (take (r .sizes) (drop 14 job)))) where
+    module _ (none : r .number ≡ 0) (n : ℕ) (is : n ≡ listRefusal (getD job 3 0) (word job 7) (words (fieldValue (drop 11 job)))) where
       list-number : n ≡ listRefusal (jobKind (fieldsRead job r)) (jobCapacity (fieldsRead job r)) (jobSizes (fieldsRead job r))
       list-number = is ∙ rw (kind-read job r, capacity-read job r, sizes-read job r)
 

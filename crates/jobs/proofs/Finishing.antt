@@ -10,12 +10,11 @@ use Rattle.functions.specs.Families.{_up_, quotientUp}
 use Rattle.functions.specs.Promise.{StepPromise}
 use Rattle.functions.proofs.Quotient.{quotient-up-is}
 use Rattle.jobs.specs.Chain.{chainImage, chainScale, chainFloor, ChainAccepted}
-use Rattle.jobs.specs.Fields.{words, jobKind, jobCapacity, jobSizes, jobSteps}
+use Rattle.jobs.specs.Fields.{words, fieldValue, jobKind, jobCapacity, jobSizes, jobSteps}
 use Rattle.jobs.specs.Job.{judgeFields, jobImages, acceptedAnswer}
 use Rattle.jobs.specs.Record.{fieldsRead, stepsIn}
 use Rattle.jobs.specs.declared.JobRead.{JobRead}
 use Rattle.jobs.proofs.Chains.{chain-promise}
-use Rattle.jobs.proofs.Reading.{part-is}
 use Rattle.jobs.proofs.Judged.{JobFine, job-fine, kind-read, sizes-read, steps-read}
 
 module _ (job : List ℕ) (r : JobRead) (accepted : judgeFields (fieldsRead job r) .number ≡ 0) (c : ℕ) (capacity-is : c ≡ jobCapacity (fieldsRead job r)) where
@@ -31,9 +30,9 @@ module _ (job : List ℕ) (r : JobRead) (accepted : judgeFields (fieldsRead job 
   promise : StepPromise (chainImage c (stepsIn job (r .steps))) c (chainScale c (stepsIn job (r .steps)))
   promise = chain-promise (stepsIn job (r .steps)) c (capacity-bounded .0) (capacity-bounded .1) chain-in
 
-  module _ (decoded : List ℕ) (decoded-is : decoded ≡ words (take (14 + r .sizes - 14) (drop 14 job))) where
+  module _ (decoded : List ℕ) (decoded-is : decoded ≡ words (fieldValue (drop 11 job))) where
     sizes-are : decoded ≡ jobSizes (fieldsRead job r)
-    sizes-are = decoded-is ∙ ap words (part-is job 14 (r .sizes)) ∙ sym (sizes-read job r)
+    sizes-are = decoded-is ∙ sym (sizes-read job r)
 
     pub decoded-within : (i : ℕ) → i < length decoded → getD decoded i 0 ≤ c
     decoded-within = rw (sizes-are, capacity-is) (fine .within-capacity)

@@ -14,7 +14,7 @@ use Rattle.jobs.specs.Fields.{Field, Fields, refused, prepend, tagInPlac
 use Rattle.jobs.specs.Record.{headRefusal, readingOf, fieldsRead, jobReading, ReadWithin}
 use Rattle.jobs.specs.declared.JobRead.{JobRead}
 use Rattle.jobs.specs.declared.StepsRead.{StepsRead}
-use Rattle.jobs.proofs.Reading.{within-facts, value-within, rest-within}
+use Rattle.jobs.proofs.Reading.{within-facts, value-within, value-length, rest-within}
 use Rattle.jobs.proofs.Parsing.{Accepted, accepted, rest-ends-early, rest-refused, rest-goes-on}
 
 -- what the field at a head has
@@ -51,17 +51,17 @@ module _ (job : List ℕ) (at place size : ℕ) (head : place < 3) (h : Head pla
       let w = within-facts (drop at job) (h .facts .within) in
       omega (arith, w .1, length-drop at job, long)
 
+  pub head-value : fieldValue (drop at job) ≡ take size (drop (at + 3) job)
+  head-value = value-within (drop at job) (h .facts .within) ∙ ap₂ (λ (n : ℕ) (xs : List ℕ). take n xs) long (drop-drop 3 at job)
+
   pub head-read : readRest place (drop at job) ≡ prepend (record { tag = place + 1; value = take size (drop (at + 3) job) }) (readRest (suc place) (drop (at + 3 + size) job))
   unfolding firstField
   head-read =
       rest-goes-on place (drop at job) (h .some) (h .fine)
       ∙ ap₂ (λ (f : Field) (r : List ℕ). prepend f (readRest (suc place) r)) first behind
     where
-      value : fieldValue (drop at job) ≡ take size (drop (at + 3) job)
-      value = value-within (drop at job) (h .facts .within) ∙ ap₂ (λ (n : ℕ) (xs : List ℕ). take n xs) long (drop-drop 3 at job)
-
       first : firstField (drop at job) ≡ record { tag = place + 1; value = take size (drop (at + 3) job) }
-      first = ap₂ (λ (n : ℕ) (v : List ℕ). record { tag = n; value = v }) (h .tag-is) value
+      first = ap₂ (λ (n : ℕ) (v : List ℕ). record { tag = n; value = v }) (h .tag-is) head-value
 
       behind : fieldRest (drop at job) ≡ drop (at + 3 + size) job
       behind =
@@ -98,14 +98,14 @@ pub nothing-within : (job : List ℕ) (r : JobRead) (n : ℕ) → r .number ≡ 
 nothing-within job r n e some zero = absurd (some (sym e ∙ zero))
 
 module _ (job : List ℕ) where
-  kind-field : Field
+  unfoldable pub kind-field : Field
   kind-field = record { tag = 1; value = take 1 (drop 3 job) }
 
   capacity-field : Field
   capacity-field = record { tag = 2; value = take 4 (drop 7 job) }
 
-  sizes-field : ℕ → Field
-  sizes-field n = record { tag = 3; value = take n (drop 14 job) }
+  sizes-field : Field
+  sizes-field = record { tag = 3; value = fieldValue (drop 11 job) }
 
   pub unread-kind : (r : JobRead) (n : ℕ) → r .number ≡ n → n ≡ headRefusal 0 job → (n ≡ 0 → ⊥) → jobFields job ≡ jobReading job r
   unfolding jobFields
@@ -118,7 +118,7 @@ module _ (job : List ℕ) where
     pub kind-room : 4 ≤ length job
     kind-room = head-room job 0 0 1 (omega arith) h1 (one-byte job h1) (omega arith)
 
-    kind-read : jobFields job ≡ prepend kind-field (readRest 1 (drop 4 job))
+    pub kind-read : jobFields job ≡ prepend kind-field (readRest 1 (drop 4 job))
     unfolding jobFields kind-field
     kind-read = head-read job 0 0 1 (omega arith) h1 (one-byte job h1) (omega arith)
 
@@ -153,12 +153,19 @@ module _ (job : List ℕ) where
         pub sizes-room : 14 + fieldLength (drop 11 job) ≤ length job
         sizes-room = head-room job 11 2 (fieldLength (drop 11 job)) (omega arith) h3 refl capacity-room
 
+        pub sizes-long : length (fieldValue (drop 11 job)) ≡ fieldLength (drop 11 job)
+        sizes-long = value-length (drop 11 job) (h3 .facts .within)
+
         pub sizes-whole : (fieldLength (drop 11 job) % 4 ≡ 0) × (fieldLength (drop 11 job) ≤ 8192)
         sizes-whole = whole-words (drop 11 job) h3
 
-        sizes-read : jobFields job ≡ prepend kind-field (prepend capacity-field (prepend (sizes-field (fieldLength (drop 11 job))) (readRest 3 (drop (14 + fieldLength (drop 11 job)) job))))
+        sizes-read : jobFields job ≡ prepend kind-field (prepend capacity-field (prepend sizes-field (readRest 3 (drop (14 + fieldLength (drop 11 job)) job))))
         unfolding sizes-field
-        sizes-read = capacity-read ∙ ap (λ (r : Fields). prepend kind-field (prepend capacity-field r)) (head-read job 11 2 (fieldLength (drop 11 job)) (omega arith) h3 refl capacity-room)
+        sizes-read =
+            capacity-read
+            ∙ ap (λ (r : Fields). prepend kind-field (prepend capacity-field r))
+            (head-read job 11 2 (fieldLength (drop 11 job)) (omega arith) h3 refl capacity-room
+            ∙ ap (λ (v : List ℕ). prepend (record { tag = 3; value = v }) (readRest 3 (drop (14 + fieldLength (drop 11 job)) job))) (sym (head-value job 11 2 (fieldLength (drop 11 job)) (omega arith) h3 refl capacity-room)))
 
         pub jobs-read : (n : ℕ) (r : StepsRead) → n ≡ fieldLength (drop 11 job) → readRest 3 (drop (14 + n) job) ≡ readingOf job r → jobFields job ≡ jobReading job (record { number = r .number; sizes = n; steps = r .steps })
         unfolding prepend readingOf fieldsRead jobReading kind-field capacity-field sizes-field
@@ -168,5 +175,5 @@ module _ (job : List ℕ) where
             steps = rw is at e
 
             go : (test : Bool) → eqb (r .number) 0 ≡ test → jobFields job ≡ jobReading job (record { number = r .number; sizes = n; steps = r .steps })
-            go true zero = sizes-read ∙ rw (steps, zero, is)
+            go true zero = sizes-read ∙ rw (steps, zero)
             go false some = sizes-read ∙ rw (steps, some)

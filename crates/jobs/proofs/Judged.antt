@@ -17,7 +17,7 @@ use Rattle.tables.specs.Check.{tableRefusal}
 use Rattle.tables.specs.Promise.{Overshoots}
 use Rattle.tables.proofs.Outcome.{checked-overshoots}
 use Rattle.jobs.specs.Chain.{Step, onFamily, onTable, capacityRefusal, stepScale, stepRefusal, ChainAccepted}
-use Rattle.jobs.specs.Fields.{Field, word, words, fieldAt, jobKind, jobCapacity, jobSizes, jobSteps}
+use Rattle.jobs.specs.Fields.{fieldValue, Field, word, words, fieldAt, jobKind, jobCapacity, jobSizes, jobSteps}
 use Rattle.jobs.specs.Sizes.{isKind, leastOf, sizesWithin, listRefusal}
 use Rattle.jobs.specs.Judge.{stepList, Refusal, judgeChain, stepEntries, entriesAt}
 use Rattle.jobs.specs.Job.{plain, judgeFields}
@@ -130,7 +130,7 @@ module _ (job : List ℕ) (r : JobRead) where
   unfolding jobCapacity fieldAt fieldsRead word
   capacity-read = omega (arith, part 4 7 0 (omega arith), part 4 7 1 (omega arith), part 4 7 2 (omega arith), part 4 7 3 (omega arith))
 
-  pub sizes-read : jobSizes (fieldsRead job r) ≡ words (take (r .sizes) (drop 14 job))
+  pub sizes-read : jobSizes (fieldsRead job r) ≡ words (fieldValue (drop 11 job))
   unfolding jobSizes fieldAt fieldsRead
   sizes-read = refl
 

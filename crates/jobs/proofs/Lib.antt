@@ -13,3 +13,4 @@ pub mod Judged
 pub mod Finishing
 pub mod Answering
 pub mod Outside
+pub mod Accepted

@@ -19,7 +19,7 @@ use Rattle.jobs.specs.declared.StepAnswer.{StepAnswer}
 use Rattle.jobs.specs.declared.Verdict.{Verdict}
 
 abbrev none : JobStep
-none = record { tag = 0; at = 0; len = 0 }
+none = record { tag = 0; at = 0 }
 
 module _ (job : List ℕ) (steps : JobSteps) (h : StepsWithin job steps) where
   pub steps-length : length (stepsIn job steps) ≡ steps .count

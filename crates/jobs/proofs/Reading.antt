@@ -29,6 +29,11 @@ module _ (rest : List ℕ) where
   unfolding fieldValue
   value-within e = rw e
 
+  pub value-length : fieldWithin rest ≡ true → length (fieldValue rest) ≡ fieldLength rest
+  value-length e =
+      let w = within-facts e in
+      ap length (value-within e) ∙ length-take-le (fieldLength rest) (drop 3 rest) (omega (arith, w .1, length-drop 3 rest))
+
   pub value-beyond : fieldWithin rest ≡ false → fieldValue rest ≡ []
   unfolding fieldValue
   value-beyond e = rw e
@@ -40,12 +45,3 @@ module _ (rest : List ℕ) where
   pub rest-beyond : fieldWithin rest ≡ false → fieldRest rest ≡ []
   unfolding fieldRest
   rest-beyond e = rw e
-
-  -- a part of n bytes from a place on
-  pub part-is : (at n : ℕ) → take (at + n - at) (drop at rest) ≡ take n (drop at rest)
-  part-is at n =
-      let same : at + n - at ≡ n = omega arith in
-      ap (λ (k : ℕ). take k (drop at rest)) same
-
-  pub part-length : (at n : ℕ) → at + n ≤ length rest → length (take (at + n - at) (drop at rest)) ≡ n
-  part-length at n l = ap length (part-is at n) ∙ length-take-le n (drop at rest) (omega (arith, length-drop at rest))

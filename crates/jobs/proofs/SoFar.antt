@@ -16,11 +16,11 @@ use Rattle.jobs.specs.Record.{fieldIn, stepFields, readingOf, StepWithin
 use Rattle.jobs.specs.declared.JobStep.{JobStep}
 use Rattle.jobs.specs.declared.JobSteps.{JobSteps}
 use Rattle.jobs.specs.declared.StepsRead.{StepsRead}
-use Rattle.jobs.proofs.Reading.{within-facts, value-within, rest-within}
+use Rattle.jobs.proofs.Reading.{within-facts, value-length, rest-within}
 use Rattle.jobs.proofs.Parsing.{Accepted, accepted, rest-ends, rest-refused, rest-goes-on, prependAll, prepend-none, prepend-more}
 
 abbrev none : JobStep
-none = record { tag = 0; at = 0; len = 0 }
+none = record { tag = 0; at = 0 }
 
 pub record SoFar (job : List ℕ) (from : ℕ) (items : List JobStep) (count at : ℕ) : Type 0 where
   pub eight : length items ≡ 8
@@ -51,7 +51,7 @@ module _ (job : List ℕ) (from : ℕ) where
 
     -- the step that a turn reads
     abbrev pub next-step : JobStep
-    next-step = record { tag = fieldTag (drop at job); at = at + 3; len = fieldLength (drop at job) }
+    next-step = record { tag = fieldTag (drop at job); at = at }
 
     pub refused-now : (n : ℕ) → n ≡ fieldRefusal (count + 3) (drop at job) → (n ≡ 0 → ⊥) → readRest 3 (drop from job) ≡ refused n
     unfolding prependAll
@@ -72,9 +72,10 @@ module _ (job : List ℕ) (from : ℕ) where
 
       same-field : firstField (drop at job) ≡ fieldIn job next-step
       unfolding firstField fieldIn
-      same-field =
-          let value = value-within (drop at job) (facts .within) ∙ ap (take (fieldLength (drop at job))) (drop-drop 3 at job) in
-          ap (λ (v : List ℕ). record { tag = fieldTag (drop at job); value = v }) value
+      same-field = refl
+
+      same-size : length (fieldValue (drop at job)) ≡ fieldLength (drop at job)
+      same-size = value-length (drop at job) (facts .within)
 
       same-rest : fieldRest (drop at job) ≡ drop (at + 3 + fieldLength (drop at job)) job
       same-rest =
@@ -112,7 +113,7 @@ module _ (job : List ℕ) (from : ℕ) where
           last i e =
               let same : i ≡ count = omega arith in
               rw (same, getD-set-same items count next-step none inside)
-              (record { within = bounds .1; tag-is = step-tag (count + 3) (fieldTag (drop at job)) (omega arith) (facts .tag) .1; size-is = facts .size })
+              (record { within = omega arith; tag-is = step-tag (count + 3) (fieldTag (drop at job)) (omega arith) (facts .tag) .1; size-is = rw same-size (facts .size) })
 
           earlier : (i : ℕ) → i < count → StepWithin job (getD (set items count next-step) i none)
           earlier i l = rw (getD-set-other items count i next-step none (omega arith)) (h .each i l)

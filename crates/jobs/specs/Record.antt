@@ -6,7 +6,7 @@ use Prim.Native.Nat.{ℕ, _+_, _%_, _≤_, _<_}
 use lib.Dec.{eqb}
 use lib.ListN.{length, getD, take, drop}
 use Rattle.jobs.specs.Chain.{Step}
-use Rattle.jobs.specs.Fields.{stepOf, Field, Fields, refused, complete, tagInPlace, lengthRight, fieldRefusal}
+use Rattle.jobs.specs.Fields.{stepOf, fieldValue, Field, Fields, refused, complete, tagInPlace, lengthRight, fieldRefusal}
 use Rattle.jobs.specs.declared.JobStep.{JobStep}
 use Rattle.jobs.specs.declared.JobSteps.{JobSteps}
 use Rattle.jobs.specs.declared.StepsRead.{StepsRead}
@@ -14,7 +14,7 @@ use Rattle.jobs.specs.declared.JobRead.{JobRead}
 
 -- the field of the job that a step of the record names
 unfoldable pub fieldIn : List ℕ → JobStep → Field
-fieldIn job s = record { tag = s .tag; value = take (s .len) (drop (s .at) job) }
+fieldIn job s = record { tag = s .tag; value = fieldValue (drop (s .at) job) }
 
 unfoldable pub stepFields : List ℕ → JobSteps → List Field
 stepFields job steps = map (fieldIn job) (take (steps .count) (steps .items))
@@ -26,23 +26,23 @@ stepsIn job steps = map stepOf (stepFields job steps)
 unfoldable pub readingOf : List ℕ → StepsRead → Fields
 readingOf job r = cond (eqb (r .number) 0) (complete (stepFields job (r .steps))) (refused (r .number))
 
--- a step's value is within the job, and its tag and length are a step's
+-- a step's field starts within the job, and its tag and length are a step's
 pub record StepWithin (job : List ℕ) (s : JobStep) : Type 0 where
-  pub within : s .at + s .len ≤ length job
+  pub within : s .at ≤ length job
   pub tag-is : tagInPlace 3 (s .tag) ≡ true
-  pub size-is : lengthRight (s .tag) (s .len) ≡ true
+  pub size-is : lengthRight (s .tag) (length (fieldValue (drop (s .at) job))) ≡ true
 
 pub record StepsWithin (job : List ℕ) (steps : JobSteps) : Type 0 where
   pub eight : length (steps .items) ≡ 8
   pub most : steps .count ≤ 8
-  pub each : (i : ℕ) → i < steps .count → StepWithin job (getD (steps .items) i (record { tag = 0; at = 0; len = 0 }))
+  pub each : (i : ℕ) → i < steps .count → StepWithin job (getD (steps .items) i (record { tag = 0; at = 0 }))
 
--- the fields of a job that was read: tags 1, 2 and 3 at fixed places, the third of r .sizes bytes, and the steps
+-- the fields of a job that was read: tags 1, 2 and 3 at fixed places, and the steps
 unfoldable pub fieldsRead : List ℕ → JobRead → List Field
 fieldsRead job r =
     record { tag = 1; value = take 1 (drop 3 job) }
     ∷ record { tag = 2; value = take 4 (drop 7 job) }
-    ∷ record { tag = 3; value = take (r .sizes) (drop 14 job) }
+    ∷ record { tag = 3; value = fieldValue (drop 11 job) }
     ∷ stepFields job (r .steps)
 
 unfoldable pub jobReading : List ℕ → JobRead → Fields
@@ -50,6 +50,7 @@ jobReading job r = cond (eqb (r .number) 0) (complete (fieldsRead job r)) (refus
 
 pub record ReadWithin (job : List ℕ) (r : JobRead) : Type 0 where
   pub sizes-within : 14 + r .sizes ≤ length job
+  pub sizes-is : length (fieldValue (drop 11 job)) ≡ r .sizes
   pub sizes-whole : r .sizes % 4 ≡ 0
   pub sizes-most : r .sizes ≤ 8192
   pub steps-within : StepsWithin job (r .steps)

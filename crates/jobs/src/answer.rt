@@ -6,9 +6,9 @@ use crate::field;
 use crate::list;
 ghost use mathlib.Core.Path.{_≡_};
 ghost use Prim.Native.Nat.{_+_, _*_, _%_, _≤_};
-ghost use lib.ListN.{length, getD, take, drop};
+ghost use lib.ListN.{length, getD, drop};
 ghost use Rattle.jobs.specs.Chain.{chainScale};
-ghost use Rattle.jobs.specs.Fields.{word, words, jobCapacity};
+ghost use Rattle.jobs.specs.Fields.{word, words, fieldValue, jobCapacity};
 ghost use Rattle.jobs.specs.Job.{judgeFields, jobImages, acceptedAnswer, bufferRefusal};
 ghost use Rattle.jobs.specs.Record.{fieldsRead, ReadWithin, stepsIn};
 ghost use Rattle.jobs.specs.Sizes.{isKind, leastOf, listRefusal};
@@ -31,10 +31,10 @@ fn least_of(kind: u8) -> u64
     0
 }
 
-// Refusals 16, 1 and 17: kind at place 3, capacity at 7, the bytes of the sizes from 14 on.
+// Refusals 16, 1 and 17: kind at place 3, capacity at 7, the field of the sizes at 11.
 pub(crate) fn refuse_list(job: &[u8], sizes: usize) -> u64
-    requires { ⌜ (14 + sizes ≤ length (now job)) × (sizes % 4 ≡ 0) ⌝ }
-    ensures { λ r. ⌜ r ≡ listRefusal (getD (now (job .entry)) 3 0) (word (now (job .entry)) 7) (words (take sizes (drop 14 (now (job .entry))))) ⌝ }
+    requires { ⌜ (11 ≤ length (now job)) × (length (fieldValue (drop 11 (now job))) ≡ sizes) × (sizes % 4 ≡ 0) ⌝ }
+    ensures { λ r. ⌜ r ≡ listRefusal (getD (now (job .entry)) 3 0) (word (now (job .entry)) 7) (words (fieldValue (drop 11 (now (job .entry))))) ⌝ }
 {
     let kind = job[3];
     let capacity = field::word_at(job, 7);
@@ -44,9 +44,9 @@ pub(crate) fn refuse_list(job: &[u8], sizes: usize) -> u64
     if !functions::capacity_fits(capacity) {
         return 1;
     }
-    let end = 14 + sizes;
     let least = least_of(kind);
-    if !list::sizes_within(&job[14..end], sizes / 4, least, capacity) {
+    let value = field::value_at(job, 11);
+    if !list::sizes_within(value, sizes / 4, least, capacity) {
         return 17;
     }
     0
@@ -63,9 +63,8 @@ pub(crate) fn finish(
     requires { ⌜ (ReadWithin (now job) read) × (judgeFields (fieldsRead (now job) read) .number ≡ 0) × (capacity ≡ jobCapacity (fieldsRead (now job) read)) × (scale ≡ chainScale capacity (stepsIn (now job) (read .steps))) × (read .sizes ≡ 4 * length (now images)) ⌝ }
     ensures { λ r. ⌜ (r ≡ acceptedAnswer (fieldsRead (now (job .entry)) read)) × (now (images .exit) ≡ jobImages (fieldsRead (now (job .entry)) read)) ⌝ }
 {
-    let end = 14 + read.sizes;
     let steps = read.steps;
-    list::decode_words(&job[14..end], images);
+    list::decode_words(field::value_at(job, 11), images);
     apply::apply_steps(job, steps, capacity, images);
     let n = images.len() as u64;
     if job[3] == 1 {

@@ -48,12 +48,11 @@ fn apply_at(job: &[u8], s: JobStep, capacity: u64, images: &mut [u32]) -> u64
     ensures { λ r. ⌜ (r ≡ stepScale capacity (stepOf (fieldIn (now (job .entry)) s))) × (now (images .exit) ≡ map (stepImage capacity (stepOf (fieldIn (now (job .entry)) s))) (now (images .entry))) ⌝ }
 {
     let tag = s.tag;
-    let at = s.at;
-    let end = at + s.len;
+    let value = field::value_at(job, s.at);
     if tag == 4 {
-        return apply_family(&job[at..end], capacity, images);
+        return apply_family(value, capacity, images);
     }
-    apply_table(&job[at..end], capacity, images)
+    apply_table(value, capacity, images)
 }
 
 pub(crate) fn apply_steps(job: &[u8], steps: JobSteps, capacity: u64, images: &mut [u32])

@@ -1,7 +1,7 @@
 // Bytes of a job: numbers, high byte first, and the first field of a job's tail.
 ghost use mathlib.Core.Path.{_≡_};
 ghost use Prim.Native.Nat.{_+_, _≤_, _<_};
-ghost use lib.ListN.{length, getD};
+ghost use lib.ListN.{length, getD, drop};
 ghost use Rattle.jobs.specs.Fields.{word, fieldLength, fieldWithin, fieldValue, fieldRest};
 
 // The length of a header: a tag and a two-byte length.
@@ -50,6 +50,14 @@ pub fn field_value(rest: &[u8]) -> &[u8]
         return &rest[HEADER..end];
     }
     &rest[n..]
+}
+
+// The value of the field at a place of the job.
+pub(crate) fn value_at(job: &[u8], at: usize) -> &[u8]
+    requires { ⌜ at ≤ length (now job) ⌝ }
+    ensures { λ r. ⌜ now r ≡ fieldValue (drop at (now (job .entry))) ⌝ }
+{
+    field_value(&job[at..])
 }
 
 // The rest from the next field on, in the same way.

@@ -29,6 +29,16 @@ fn judge_family_step(value: &[u8], capacity: u64) -> StepAnswer
     }
 }
 
+fn refused_step(number: u64, length: u64) -> StepAnswer
+    ensures { λ r. ⌜ r ≡ record { number = number; scale = 0; length = length } ⌝ }
+{
+    StepAnswer {
+        number,
+        scale: 0,
+        length,
+    }
+}
+
 // A table's entries are decoded into `table`, checked, and held against the present capacity.
 fn judge_table_in(
     value: &[u8],
@@ -41,21 +51,14 @@ fn judge_table_in(
     ensures { λ r. ⌜ (r ≡ stepAnswer capacity (onTable (words (now (value .entry))))) × (now (list .exit) ≡ stepList (r .number) (onTable (words (now (value .entry)))) ++ drop (r .length) (now (list .entry))) ⌝ }
 {
     list::decode_words(value, table);
-    let checked = tables::windowfloor_table_check(table, working, list);
-    if checked.number != 0 {
-        return StepAnswer {
-            number: checked.number,
-            scale: 0,
-            length: checked.length,
-        };
-    }
     let last = table.len() - 1;
+    let checked = tables::windowfloor_table_check(table, working, list);
+    let number = checked.number;
+    if number != 0 {
+        return refused_step(number, checked.length);
+    }
     if last as u64 != capacity {
-        return StepAnswer {
-            number: 18,
-            scale: 0,
-            length: 0,
-        };
+        return refused_step(18, 0);
     }
     StepAnswer {
         number: 0,
@@ -105,9 +108,7 @@ fn judge_at(
     requires { ⌜ (StepWithin (now job) s) × (2048 ≤ length (now working)) × (2047 ≤ length (now list)) ⌝ }
     ensures { λ r. ⌜ (r ≡ stepAnswer capacity (stepOf (fieldIn (now (job .entry)) s))) × (now (list .exit) ≡ stepList (r .number) (stepOf (fieldIn (now (job .entry)) s)) ++ drop (r .length) (now (list .entry))) ⌝ }
 {
-    let at = s.at;
-    let end = at + s.len;
-    judge_step(s.tag, &job[at..end], capacity, working, list)
+    judge_step(s.tag, field::value_at(job, s.at), capacity, working, list)
 }
 
 pub(crate) fn judge_steps(

@@ -13,11 +13,10 @@ ghost use Rattle.jobs.specs.Fields.{jobFields, jobSteps};
 ghost use Rattle.jobs.specs.Job.{fieldsOf, jobAnswer, imagesAfter, listAfterJob, JobSafe};
 ghost use Rattle.jobs.specs.Judge.{entriesAt};
 
-// A step of a job: its tag, and the place and length of its value in the job.
+// A step of a job: its tag, and the place of its field in the job.
 pub struct JobStep {
     pub tag: u8,
     pub at: usize,
-    pub len: usize,
 }
 
 // The steps of one job: eight places and their number.

@@ -87,11 +87,7 @@ fn refuse_head(job: &[u8], at: usize, place: usize) -> u64
 fn no_steps() -> JobSteps
     ensures { λ r. ⌜ r .count ≡ 0 ⌝ }
 {
-    let none = JobStep {
-        tag: 0,
-        at: 0,
-        len: 0,
-    };
+    let none = JobStep { tag: 0, at: 0 };
     JobSteps {
         items: [none; 8],
         count: 0,
@@ -114,11 +110,7 @@ pub(crate) fn read_steps(job: &[u8], from: usize) -> StepsRead
     ensures reading { λ r. ⌜ readRest 3 (drop from (now (job .entry))) ≡ readingOf (now (job .entry)) r ⌝ }
     ensures within { λ r. ⌜ StepsWithin (now (job .entry)) (r .steps) ⌝ }
 {
-    let none = JobStep {
-        tag: 0,
-        at: 0,
-        len: 0,
-    };
+    let none = JobStep { tag: 0, at: 0 };
     let mut items = [none; 8];
     let mut count = 0;
     let mut at = from;
@@ -132,11 +124,7 @@ pub(crate) fn read_steps(job: &[u8], from: usize) -> StepsRead
             };
         }
         let len = field::length_at_header(rest);
-        items[count] = JobStep {
-            tag: rest[0],
-            at: at + 3,
-            len,
-        };
+        items[count] = JobStep { tag: rest[0], at };
         count += 1;
         at = at + 3 + len;
     }

@@ -5,7 +5,7 @@ use native.Mathlib.Omega.{arith}
 use borrow.Author.Needs.{needs}
 use lib.ListN.{length, take, drop, length-drop}
 use lib.Seq.{length-take-le}
-use Rattle.jobs.specs.Fields.{jobSizes}
+use Rattle.jobs.specs.Fields.{fieldValue, jobSizes}
 use Rattle.jobs.specs.Job.{judgeJob, judgeFields, bufferRefusal}
 use Rattle.jobs.specs.Judge.{judgeChain}
 use Rattle.jobs.specs.Record.{fieldsRead, stepsIn, ReadWithin}
@@ -46,7 +46,7 @@ whole : (c : tie.Else2) → ReadWithin (c .before .before .before .before .befor
 whole c = c .before .before .read-job .ensures .1 (c .if2 .left)
 
 refuse-list-requires : tie.Need-refuse-list-requires
-refuse-list-requires c κs = (whole c .sizes-within, whole c .sizes-whole)
+refuse-list-requires c κs = (omega (arith, whole c .sizes-within), whole c .sizes-is, whole c .sizes-whole)
 
 refused-requires-3 : tie.Need-refused-requires-3
 refused-requires-3 c κs = search needs
@@ -122,9 +122,8 @@ count : (c : tie.Else2) → c .before .before .read-job .result .sizes / 4 ≡ l
 count c =
     let r = c .before .before .read-job .result in
     let job = c .before .before .before .before .before .before .before .before .before .args .job .now in
-    let fit = length-take-le (r .sizes) (drop 14 job) (omega (arith, length-drop 14 job, whole c .sizes-within)) in
-    let whole-words : length (take (r .sizes) (drop 14 job)) ≡ 4 * (r .sizes / 4) = omega (arith, fit, whole c .sizes-whole) in
-    sym (ap length (sizes-read job r) ∙ words-length (r .sizes / 4) (take (r .sizes) (drop 14 job)) whole-words)
+    let whole-words : length (fieldValue (drop 11 job)) ≡ 4 * (r .sizes / 4) = omega (arith, whole c .sizes-is, whole c .sizes-whole) in
+    sym (ap length (sizes-read job r) ∙ words-length (r .sizes / 4) (fieldValue (drop 11 job)) whole-words)
 
 returns-5 : tie.Need-returns-5
 returns-5 c =

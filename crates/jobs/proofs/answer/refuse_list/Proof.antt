@@ -4,11 +4,10 @@ use mathlib.Core.Bool.{true}
 use native.Mathlib.Omega.{arith}
 use borrow.Author.Tests.{not-true, not-false}
 use borrow.Author.Needs.{needs}
-use lib.ListN.{getD, take, drop}
+use lib.ListN.{length, getD, drop}
 use Rattle.functions.specs.Words.{capacityFits}
-use Rattle.jobs.specs.Fields.{word, words}
+use Rattle.jobs.specs.Fields.{word, words, fieldValue}
 use Rattle.jobs.specs.Sizes.{isKind, leastOf, sizesWithin, listRefusal}
-use Rattle.jobs.proofs.Reading.{part-is, part-length}
 use Rattle.jobs.proofs.answer.refuse_list.Statement.{statement}
 use Rattle.jobs.proofs.answer.refuse_list.Tie as tie
 
@@ -27,10 +26,9 @@ kind-is c = sym (c .before .is-kind .ensures) ∙ not-false _ (c .if1 .left)
 fits-is : (c : tie.After-capacity-fits) → capacityFits (word (c .before .before .before .before .before .before .args .job .now) 7) ≡ c .capacity-fits .result
 fits-is c = ap capacityFits (sym (c .before .before .before .word-at .ensures .0)) ∙ sym (c .capacity-fits .ensures)
 
-within-is : (c : tie.After-sizes-within) → sizesWithin (leastOf (getD (c .before .before .before .before .before .before .before .before .before .before .args .job .now) 3 0)) (word (c .before .before .before .before .before .before .before .before .before .before .args .job .now) 7) (words (take (c .before .before .before .before .before .before .before .before .before .before .args .sizes) (drop 14 (c .before .before .before .before .before .before .before .before .before .before .args .job .now)))) ≡ c .sizes-within .result
+within-is : (c : tie.After-sizes-within) → sizesWithin (leastOf (getD (c .before .before .before .before .before .before .before .before .before .before .args .job .now) 3 0)) (word (c .before .before .before .before .before .before .before .before .before .before .args .job .now) 7) (words (fieldValue (drop 11 (c .before .before .before .before .before .before .before .before .before .before .args .job .now)))) ≡ c .sizes-within .result
 within-is c =
-    let start = c .before .before .before .before .before .before .before .before .before .before in
-    sym (c .sizes-within .ensures ∙ rw (c .before .before .least-of .ensures, c .before .before .before .before .before .before .before .word-at .ensures .0, part-is (start .args .job .now) 14 (start .args .sizes)))
+    sym (c .sizes-within .ensures ∙ rw (c .before .before .least-of .ensures, c .before .before .before .before .before .before .before .word-at .ensures .0, c .before .value-at .ensures))
 
 returns : tie.Need-returns
 unfolding listRefusal
@@ -43,25 +41,14 @@ returns-2 : tie.Need-returns-2
 unfolding listRefusal
 returns-2 c = rw (kind-is (c .before .before), fits-is (c .before) ∙ not-true _ (c .if2 .taken))
 
-add-end : tie.Need-add-end
-add-end c = search needs
-
 least-of-requires : tie.Need-least-of-requires
 least-of-requires c κs = search needs
 
-sub-sizes-within : tie.Need-sub-sizes-within
-sub-sizes-within c = search needs
-
-part-sizes-within-start : tie.Need-part-sizes-within-start
-part-sizes-within-start c = search needs
-
-part-sizes-within-end : tie.Need-part-sizes-within-end
-part-sizes-within-end c = search needs
+value-at-requires : tie.Need-value-at-requires
+value-at-requires c κs = search needs
 
 sizes-within-requires : tie.Need-sizes-within-requires
-sizes-within-requires c κs =
-    let start = c .before .before .before .before .before .before .before .before .before in
-    omega (arith, part-length (start .args .job .now) 14 (start .args .sizes) (start .pre .0), start .pre .1)
+sizes-within-requires c κs = omega (arith, ap length (c .value-at .ensures), c .before .before .before .before .before .before .before .before .before .pre)
 
 capacity-is : (c : tie.Else2) → capacityFits (word (c .before .before .before .before .before .before .before .args .job .now) 7) ≡ true
 capacity-is c = fits-is (c .before) ∙ not-false _ (c .if2 .left)
@@ -88,11 +75,8 @@ refuse-list-spec =
     returns
     capacity-fits-requires
     returns-2
-    add-end
     least-of-requires
-    sub-sizes-within
-    part-sizes-within-start
-    part-sizes-within-end
+    value-at-requires
     sizes-within-requires
     returns-3
     returns-4)

@@ -1,30 +1,17 @@
--- `judge_at` meets its contract: the part of the job is the step's value.
-use mathlib.Core.Path.{_≡_, sym}
-use native.Mathlib.Omega.{arith}
-use borrow.Author.Needs.{needs}
+-- `judge_at` meets its contract: the field reader gives the step's value.
 use Rattle.jobs.specs.Record.{fieldIn, StepWithin}
-use Rattle.jobs.proofs.Reading.{part-is, part-length}
+use borrow.Author.Needs.{needs}
 use Rattle.jobs.proofs.judge.judge_at.Statement.{statement}
 use Rattle.jobs.proofs.judge.judge_at.Tie as tie
 
-add-end : tie.Need-add-end
-add-end c = search needs
-
-sub-judge-step : tie.Need-sub-judge-step
-sub-judge-step c = search needs
-
-part-judge-step-start : tie.Need-part-judge-step-start
-part-judge-step-start c = search needs
-
-part-judge-step-end : tie.Need-part-judge-step-end
-part-judge-step-end c = search needs
+value-at-requires : tie.Need-value-at-requires
+value-at-requires c κs = search needs
 
 judge-step-requires : tie.Need-judge-step-requires
 judge-step-requires c κs =
-    let start = c .before .before .before .before .before .before .before in
-    let a = start .args in
+    let start = c .before .before .before .before .before .before in
     let w = start .pre .0 in
-    (w .tag-is, rw (part-length (a .job .now) (a .s .at) (a .s .len) (w .within)) (w .size-is), start .pre .1, start .pre .2)
+    (w .tag-is, rw (c .before .before .value-at .ensures) (w .size-is), start .pre .1, start .pre .2)
 
 same-length : tie.Need-same-length
 same-length c = search needs
@@ -34,19 +21,8 @@ same-length-2 c = search needs
 
 returns : tie.Need-returns
 unfolding fieldIn
-returns c =
-    let a = c .before .before .before .before .before .before .before .before .before .before .before .before .args in
-    rw (part-is (a .job .now) (a .s .at) (a .s .len)) at (c .before .before .before .before .judge-step .ensures)
+returns c = rw (c .before .before .before .before .before .before .before .value-at .ensures) at (c .before .before .before .before .judge-step .ensures)
 
 pub judge-at-spec : {M : Type 1} → statement M
 judge-at-spec =
-    tie.close
-    (tie.spec
-    add-end
-    sub-judge-step
-    part-judge-step-start
-    part-judge-step-end
-    judge-step-requires
-    same-length
-    same-length-2
-    returns)
+    tie.close (tie.spec value-at-requires judge-step-requires same-length same-length-2 returns)

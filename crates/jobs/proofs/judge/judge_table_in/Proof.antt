@@ -14,8 +14,14 @@ use Rattle.jobs.proofs.judge.judge_table_in.Tie as tie
 decode-words-requires : tie.Need-decode-words-requires
 decode-words-requires c κs = search needs
 
+sub-last : tie.Need-sub-last
+sub-last c = search needs
+
 windowfloor-table-check-requires : tie.Need-windowfloor-table-check-requires
 windowfloor-table-check-requires c κs = search needs
+
+refused-step-requires : tie.Need-refused-step-requires
+refused-step-requires c κs = search needs
 
 same-length : tie.Need-same-length
 same-length c = search needs
@@ -42,10 +48,10 @@ returns : tie.Need-returns
 returns c =
     let d = c .before .before .before .before .before .before in
     let e = d .windowfloor-table-check .ensures in
-    rw (← (entries d)) (table-refused _ _ _ _ (room d) (list-room d) _ (e .0) _ (e .1 .1 .0) (c .if1 .taken))
+    rw (c .refused-step .ensures, ← (entries d)) (table-refused _ _ _ _ (room d) (list-room d) _ (e .0) _ (e .1 .1 .0) (c .before .if1 .taken))
 
-sub-last : tie.Need-sub-last
-sub-last c = search needs
+refused-step-requires-2 : tie.Need-refused-step-requires-2
+refused-step-requires-2 c κs = search needs
 
 same-length-4 : tie.Need-same-length-4
 same-length-4 c = search needs
@@ -60,17 +66,17 @@ returns-2 : tie.Need-returns-2
 returns-2 c =
     let d = c .before .before .before .before .before .before .before in
     let e = d .windowfloor-table-check .ensures in
-    rw (← (entries d)) (table-of-another _ _ _ _ (room d) (list-room d) _ (e .0) _ (e .1 .1 .0) (c .before .if1 .left) (λ same. c .if2 .taken (sym (capacity-is _) ∙ same)))
+    rw (c .refused-step2 .ensures, ← (entries d)) (table-of-another _ _ _ _ (room d) (list-room d) _ (e .0) _ (e .1 .1 .0) (c .before .before .if1 .left) (λ same. c .before .if2 .taken (sym (capacity-is _) ∙ same)))
 
-mul-t18 : tie.Need-mul-t18
-mul-t18 c = search needs
+mul-t12 : tie.Need-mul-t12
+mul-t12 c = search needs
 
-slice-read-t21 : tie.Need-slice-read-t21
-slice-read-t21 c = search needs
+slice-read-t22 : tie.Need-slice-read-t22
+slice-read-t22 c = search needs
 
-cast-t19 : tie.Need-cast-t19
-cast-t19 c =
-    let t = c .before .before .before .before .before .before .before .before .before .before .before .before .before .before .decode-words .last .1 .0 in
+cast-t20 : tie.Need-cast-t20
+cast-t20 c =
+    let t = c .before .before .before .before .before .before .before .before .before .before .before .before .before .decode-words .last .1 .0 in
     omega (arith, c .slice-known7 .given (length t - 1))
 
 same-length-7 : tie.Need-same-length-7
@@ -84,7 +90,7 @@ same-length-9 c = search needs
 
 returns-3 : tie.Need-returns-3
 returns-3 c =
-    let d = c .before .before .before .before .before .before .before .before in
+    let d = c .before .before .before .before .before .before .before in
     let e = d .windowfloor-table-check .ensures in
     let t = d .before .before .before .before .before .before .decode-words .last .1 .0 in
     let scale = scale-entry t ∙ entry-is t (tableCapacity t) ∙ ap (λ (n : ℕ). getD t n 0) (capacity-is t) in
@@ -95,19 +101,21 @@ judge-table-in-spec =
     tie.close
     (tie.spec
     decode-words-requires
+    sub-last
     windowfloor-table-check-requires
+    refused-step-requires
     same-length
     same-length-2
     same-length-3
     returns
-    sub-last
+    refused-step-requires-2
     same-length-4
     same-length-5
     same-length-6
     returns-2
-    mul-t18
-    slice-read-t21
-    cast-t19
+    mul-t12
+    slice-read-t22
+    cast-t20
     same-length-7
     same-length-8
     same-length-9

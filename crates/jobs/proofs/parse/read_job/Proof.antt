@@ -7,7 +7,7 @@ use lib.ListN.{length, take, drop}
 use Rattle.jobs.specs.Fields.{fieldLength}
 use Rattle.jobs.specs.Record.{headRefusal, ReadWithin}
 use Rattle.jobs.proofs.Reading.{to-the-end}
-use Rattle.jobs.proofs.Heads.{nothing-within, unread-kind, kind-room, unread-capacity, capacity-room, unread-sizes, sizes-header, sizes-room, sizes-whole, jobs-read}
+use Rattle.jobs.proofs.Heads.{nothing-within, unread-kind, kind-room, unread-capacity, capacity-room, unread-sizes, sizes-header, sizes-room, sizes-long, sizes-whole, jobs-read}
 use Rattle.jobs.proofs.parse.read_job.Statement.{statement}
 use Rattle.jobs.proofs.parse.read_job.Tie as tie
 
@@ -95,6 +95,7 @@ returns-4 c =
       jobs-read _ one two (sizes-fine d) _ (read .result) long (read .ensures .0),
       λ zero. record {
         sizes-within = omega (arith, long, sizes-room _ one two (sizes-fine d));
+        sizes-is = sizes-long _ one two (sizes-fine d) ∙ sym long;
         sizes-whole = rw long (sizes-whole _ one two (sizes-fine d) .0);
         sizes-most = omega (arith, long, sizes-whole _ one two (sizes-fine d));
         steps-within = read .ensures .1;

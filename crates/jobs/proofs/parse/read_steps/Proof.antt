@@ -64,9 +64,6 @@ length-at-header-requires c κs = rw (tail-is (c .before .before .before)) (fiel
 shared-slice-read-t17 : tie.Need-shared-slice-read-t17 Inv-loop μ-loop
 shared-slice-read-t17 c = omega (arith, ap length (tail-is (c .before .before .before .before .before)), field-bounds (c .before .before))
 
-add-at : tie.Need-add-at Inv-loop μ-loop
-add-at c = omega arith
-
 mul-items : tie.Need-mul-items Inv-loop μ-loop
 mul-items c = omega (arith, step-room (c .before .before))
 
@@ -76,11 +73,11 @@ array-set-from-items c = step-room (c .before .before)
 add-count : tie.Need-add-count Inv-loop μ-loop
 add-count c = omega arith
 
-add-at-2 : tie.Need-add-at-2 Inv-loop μ-loop
-add-at-2 c = omega arith
+add-at : tie.Need-add-at Inv-loop μ-loop
+add-at c = omega arith
 
-add-at-3 : tie.Need-add-at-3 Inv-loop μ-loop
-add-at-3 c = omega (arith, field-bounds (c .before .before), length-is (c .before))
+add-at-2 : tie.Need-add-at-2 Inv-loop μ-loop
+add-at-2 c = omega (arith, field-bounds (c .before .before), length-is (c .before))
 
 loop-less : tie.Need-loop-less Inv-loop μ-loop
 loop-less c = omega (arith, field-bounds (c .before .before), length-is (c .before))
@@ -110,12 +107,11 @@ read-steps-spec =
     returns
     length-at-header-requires
     shared-slice-read-t17
-    add-at
     mul-items
     array-set-from-items
     add-count
+    add-at
     add-at-2
-    add-at-3
     loop-less
     loop-again
     returns-2)

@@ -1,0 +1,6 @@
+pub mod Puts
+pub mod Decimals
+pub mod Values
+pub mod Texts
+pub mod Answered
+pub mod Lengths

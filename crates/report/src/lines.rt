@@ -1,0 +1,64 @@
+// The lines of a text: a word, values with one space before each, and the line's end.
+use crate::put;
+ghost use mathlib.Core.Path.{_≡_};
+ghost use mathlib.Core.List.{[], _∷_, _++_};
+ghost use Prim.Native.Nat.{_≤_};
+ghost use lib.ListN.{length};
+ghost use Rattle.report.specs.Text.{line, acceptedText, floorText, refusedText};
+ghost use Rattle.report.specs.Put.{Put};
+
+fn put_number_line(out: &mut [u8], at: usize, word: &[u8], n: u64) -> usize
+    requires { ⌜ at ≤ length (now out) ⌝ }
+    ensures { λ r. ⌜ Put (now (out .entry)) at (line (now (word .entry)) (n ∷ [])) (now (out .exit)) r ⌝ }
+{
+    let behind = put::put_bytes(out, at, word);
+    let end = put::put_value(out, behind, n);
+    put::put_byte(out, end, b'\n')
+}
+
+fn put_list_line(out: &mut [u8], at: usize, word: &[u8], values: &[u32]) -> usize
+    requires { ⌜ at ≤ length (now out) ⌝ }
+    ensures { λ r. ⌜ Put (now (out .entry)) at (line (now (word .entry)) (now (values .entry))) (now (out .exit)) r ⌝ }
+{
+    let behind = put::put_bytes(out, at, word);
+    let end = put::put_values(out, behind, values);
+    put::put_byte(out, end, b'\n')
+}
+
+// The lines that a cut does not have.
+fn put_floor(out: &mut [u8], kind: u8, answer: jobs::JobAnswer) -> usize
+    ensures { λ r. ⌜ Put (now (out .entry)) 0 (floorText kind answer) (now (out .exit)) r ⌝ }
+{
+    if kind != 1 {
+        return 0;
+    }
+    let next = put_number_line(out, 0, b"floor", answer.floor);
+    put_number_line(out, next, b"sum", answer.sum)
+}
+
+pub(crate) fn put_accepted(
+    out: &mut [u8],
+    kind: u8,
+    answer: jobs::JobAnswer,
+    images: &[u32],
+) -> usize
+    ensures { λ r. ⌜ Put (now (out .entry)) 0 (acceptedText kind answer (now (images .entry))) (now (out .exit)) r ⌝ }
+{
+    let scale = answer.scale;
+    let next = put_floor(out, kind, answer);
+    let last = put_number_line(out, next, b"scale", scale);
+    put_list_line(out, last, b"images", images)
+}
+
+pub(crate) fn put_refused(out: &mut [u8], number: u64, step: u64, list: &[u32]) -> usize
+    ensures { λ r. ⌜ Put (now (out .entry)) 0 (refusedText number step (now (list .entry))) (now (out .exit)) r ⌝ }
+{
+    let behind = put::put_bytes(out, 0, b"refused");
+    let numbered = put::put_value(out, behind, number);
+    let stepped = put::put_value(out, numbered, step);
+    let next = put::put_byte(out, stepped, b'\n');
+    if number != 11 {
+        return next;
+    }
+    put_list_line(out, next, b"list", list)
+}

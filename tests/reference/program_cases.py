@@ -1,0 +1,92 @@
+"""Runs the program target/bin/windowfloor on the jobs of examples/, whose
+output is stored there, on the jobs of the job cases and on longer input, and
+compares what it prints with the independent implementation. Exits with 1 if
+one differs."""
+
+import subprocess
+import sys
+import time
+from pathlib import Path
+
+sys.dont_write_bytecode = True
+import windowfloor as wf
+from job_cases import all_cases, job_of
+
+ROOT = Path(__file__).resolve().parents[2]
+PROGRAM = ROOT / "target/bin/windowfloor"
+EXAMPLES = ROOT / "examples"
+MOST_BYTES = 65_535
+
+
+def run(data):
+    """Standard output and standard error of the program."""
+    done = subprocess.run([PROGRAM], input=data, capture_output=True, timeout=60)
+    return done.stdout, done.stderr
+
+
+def run_in_pieces(data, size):
+    """The same with the job written in pieces, with pauses."""
+    with subprocess.Popen([PROGRAM], stdin=subprocess.PIPE, stdout=subprocess.PIPE,
+                          stderr=subprocess.PIPE) as program:
+        for at in range(0, len(data), size):
+            program.stdin.write(data[at:at + size])
+            program.stdin.flush()
+            time.sleep(0.002)
+        return program.communicate(timeout=60)
+
+
+def differs(name, printed, expected):
+    if printed == (expected, b""):
+        return False
+    print(f"differs: {name}: {printed!r:.200}, not {expected!r:.200}")
+    return True
+
+
+def example_cases():
+    """Each job of examples/ with its stored output; the hand-over job also as hexadecimal."""
+    for path in sorted(EXAMPLES.glob("*.job")):
+        yield path.name, run(path.read_bytes()), path.with_suffix(".txt").read_bytes()
+    by_hand = bytes.fromhex((EXAMPLES / "handover.hex").read_text())
+    yield "handover.hex", (by_hand, b""), (EXAMPLES / "handover.job").read_bytes()
+
+
+def job_cases(jobs):
+    for data in jobs:
+        yield f"job {data[:40].hex()}", run(data), wf.program(data)
+
+
+def longer_cases(jobs):
+    """Input that starts with a longest accepted job: it is refused and not cut short."""
+    longest = max((data for data in jobs if b"refused" not in wf.program(data)), key=len)
+    assert len(longest) > MOST_BYTES - 16
+    for more in (1, 2, 12, 20_000, 200_000):
+        data = longest + bytes(MOST_BYTES - len(longest) + more)
+        yield f"{len(data)} bytes", run(data), b"refused 12 0\n"
+
+
+def piece_cases(jobs):
+    for data in jobs[:40]:
+        yield f"pieces of {data[:40].hex()}", run_in_pieces(data, 7), wf.program(data)
+
+
+def unreadable():
+    """A folder as standard input: nothing is printed, and standard error says why."""
+    with subprocess.Popen(["sh", "-c", f'exec "{PROGRAM}" < "{ROOT}"'], stdout=subprocess.PIPE,
+                          stderr=subprocess.PIPE) as program:
+        yield "a folder", program.communicate(timeout=60)[::-1], b"windowfloor: standard input cannot be read\n"
+
+
+def main():
+    jobs = list(dict.fromkeys(job_of(case) for case in all_cases()))
+    cases = 0
+    failed = 0
+    for part in (example_cases(), job_cases(jobs), longer_cases(jobs), piece_cases(jobs), unreadable()):
+        for case in part:
+            cases += 1
+            failed += differs(*case)
+    print(f"{cases} runs of the program, {failed} differ")
+    return 1 if failed else 0
+
+
+if __name__ == "__main__":
+    sys.exit(main())
