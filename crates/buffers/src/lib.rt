@@ -13,6 +13,10 @@ pub fn at_most(value: u64, limit: usize) -> usize
     }
 }
 
+pub fn low_byte(value: u64) -> u8 {
+    (value % 256) as u8
+}
+
 pub fn low_bits(value: u64) -> u32 {
     (value % TWO_TO_32) as u32
 }

@@ -1,5 +1,5 @@
 -- What refusals 1 to 4 leave of a family step, as facts on numbers.
-use mathlib.Core.Path.{_≡_}
+use mathlib.Core.Path.{_≡_, sym, _∙_}
 use mathlib.Core.Bool.{Bool, true, false, cond, not, _&&_, _||_, and-eq-true-iff, or-true}
 use mathlib.Core.Logic.{_⊎_, inl, inr, ⊎-elim}
 use Prim.Native.Nat.{ℕ, zero, suc, _+_, _-_, _*_, _%_, _≤_, _<_}
@@ -187,3 +187,13 @@ module _ (c p q : ℕ) where
   pub legal-7 : legal c 7 p q ≡ true → LegalPair c p q
   unfolding legalFor
   legal-7 e = legal-pair (own 7 e)
+
+-- with q 0 only families 1 to 5 are accepted
+pub single-most : (c family p : ℕ) → familyRefusal c family p 0 ≡ 0 → family ≤ 5
+single-most c family p e = ⊎-elim (λ l. absurd (pair l)) (λ h. h) (lt-or-ge 5 family)
+  where
+    pair : 5 < family → ⊥
+    pair l =
+        let a = accepted c family p 0 e in
+        let legal-here = legal-pair c p 0 (sym (legal-for-pair c p 0 family l (a .family-most)) ∙ own c p 0 family (a .is-legal)) in
+        omega arith

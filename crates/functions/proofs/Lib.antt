@@ -12,3 +12,4 @@ pub mod Ready
 pub mod Answers
 pub mod Pasted
 pub mod Mapped
+pub mod Summed

@@ -26,10 +26,16 @@ fn excess(a: u64, b: u64) -> u64
     if b < a { a - b } else { 0 }
 }
 
-// The mirror of a function at x, from its values: top at the capacity, and part at x or at
-// capacity - x, whichever is less.
+// The size, or what it leaves of the capacity, whichever is less.
+fn lesser_part(capacity: u64, x: u64) -> u64
+    ensures { λ r. ⌜ r ≡ min x (capacity - x) ⌝ }
+{
+    lesser(x, excess(capacity, x))
+}
+
+// The mirror of a function at x, from its values: top at the capacity, and part at the lesser part.
 fn mirrored(capacity: u64, top: u64, part: u64, x: u64) -> u64
-    requires { ⌜ (x ≤ capacity) × (capacity ≤ limit) × (part ≤ top) × (2 * top < 2 ^ 64) ⌝ }
+    requires { ⌜ (x < 2 ^ 32) × (part ≤ top) × (2 * top < 2 ^ 64) ⌝ }
     ensures { λ r. ⌜ ((g : ℕ → ℕ) → g capacity ≡ top → g (min x (capacity - x)) ≡ part → r ≡ mirror capacity g x) ⌝ }
 {
     if 2 * x < capacity {
@@ -57,7 +63,7 @@ pub(crate) fn threshold(capacity: u64, p: u64, x: u64) -> u64
 
 // Family 2: x * (p + 1) rounded down to a multiple of the capacity, less x where it is one itself.
 pub(crate) fn rounding(capacity: u64, p: u64, x: u64) -> u64
-    requires { ⌜ (0 < capacity) × (p ≤ limit) × (x ≤ limit) ⌝ }
+    requires { ⌜ (0 < capacity) × (p ≤ limit) × (x < 2 ^ 32) ⌝ }
     ensures { λ r. ⌜ r ≡ rounding capacity p x ⌝ }
 {
     let scaled = x * (p + 1);
@@ -67,18 +73,18 @@ pub(crate) fn rounding(capacity: u64, p: u64, x: u64) -> u64
 
 // Family 3, with top = capacity / p.
 pub(crate) fn mirrored_quotient(capacity: u64, p: u64, top: u64, x: u64) -> u64
-    requires { ⌜ (x ≤ capacity) × (capacity ≤ limit) × (0 < p) × (top ≡ quotient p capacity) ⌝ }
+    requires { ⌜ (x < 2 ^ 32) × (capacity ≤ limit) × (0 < p) × (top ≡ quotient p capacity) ⌝ }
     ensures { λ r. ⌜ r ≡ mirror capacity (quotient p) x ⌝ }
 {
-    mirrored(capacity, top, lesser(x, capacity - x) / p, x)
+    mirrored(capacity, top, lesser_part(capacity, x) / p, x)
 }
 
 // Family 4.
 pub(crate) fn mirrored_vanderbeck(capacity: u64, p: u64, x: u64) -> u64
-    requires { ⌜ (x ≤ capacity) × (0 < capacity) × (capacity ≤ limit) × (1 ≤ p) × (p ≤ limit) ⌝ }
+    requires { ⌜ (x < 2 ^ 32) × (0 < capacity) × (capacity ≤ limit) × (1 ≤ p) × (p ≤ limit) ⌝ }
     ensures { λ r. ⌜ r ≡ mirror capacity (vanderbeck capacity p) x ⌝ }
 {
-    let y = lesser(x, capacity - x);
+    let y = lesser_part(capacity, x);
     let part = round_up(p * y, capacity) - lesser(y, 1);
     mirrored(capacity, p - 1, part, x)
 }
@@ -107,10 +113,10 @@ pub(crate) fn mirrored_letchford_lodi(
     top: u64,
     x: u64,
 ) -> u64
-    requires { ⌜ (x ≤ capacity) × (capacity ≤ limit) × (p ≤ capacity) × (q ≤ limit) × (r < p) × (p - r ≤ q * r) × (top ≡ letchfordLodi p q r capacity) ⌝ }
+    requires { ⌜ (x < 2 ^ 32) × (capacity ≤ limit) × (p ≤ capacity) × (q ≤ limit) × (r < p) × (p - r ≤ q * r) × (top ≡ letchfordLodi p q r capacity) ⌝ }
     ensures { λ y. ⌜ y ≡ mirror capacity (letchfordLodi p q r) x ⌝ }
 {
-    let part = letchford_lodi(p, q, r, lesser(x, capacity - x));
+    let part = letchford_lodi(p, q, r, lesser_part(capacity, x));
     mirrored(capacity, top, part, x)
 }
 

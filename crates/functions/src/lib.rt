@@ -1,15 +1,16 @@
 // The seven families of dual-feasible functions: the image of a size, the judgement of a family
-// step, and a whole list of sizes mapped through one.
+// step, a whole list of sizes mapped through one, and the sum of a list's images.
 mod formula;
 mod judge;
 mod sizes;
+mod sums;
 
 ghost use mathlib.Core.Path.{_≡_};
 ghost use mathlib.Core.List.{map};
 ghost use Prim.Native.Nat.{_≤_};
 ghost use Rattle.functions.specs.Words.{capacityFits};
 ghost use Rattle.functions.specs.Families.{familyImage, quotientUp};
-ghost use Rattle.functions.specs.Image.{familyRefusal, familyAnswer, imageAnswer, imageField, mappedSizes};
+ghost use Rattle.functions.specs.Image.{familyRefusal, familyAnswer, familySum, imageAnswer, imageField, imagesSum, mappedSizes};
 
 // The greatest capacity, parameter, scale and table entry.
 pub const LIMIT: u64 = 1_000_000_000;
@@ -26,6 +27,14 @@ pub struct ImageAnswer {
 pub struct FamilyAnswer {
     pub number: u64,
     pub scale: u64,
+}
+
+// The sum of a list's images under a step without q: the number that refuses the step, or 0 with
+// the scale and the sum.
+pub struct FamilySum {
+    pub number: u64,
+    pub scale: u64,
+    pub sum: u64,
 }
 
 pub fn capacity_fits(capacity: u64) -> bool
@@ -143,6 +152,40 @@ pub fn map_family(capacity: u64, family: u8, p: u64, q: u64, list: &mut [u32]) -
         map_accepted(capacity, family, p, q, list);
     }
     judged
+}
+
+// Sums the images of the sizes under an accepted step. With q 0 only families 1 to 5 are accepted.
+fn sum_accepted(capacity: u64, family: u8, p: u64, list: &[u32]) -> u64
+    requires { ⌜ familyRefusal capacity family p 0 ≡ 0 ⌝ }
+    ensures { λ r. ⌜ r ≡ imagesSum capacity family p (now (list .entry)) ⌝ }
+{
+    match family {
+        1 => sums::sum_threshold(capacity, p, list),
+        2 => sums::sum_rounding(capacity, p, list),
+        3 => sums::sum_mirrored_quotient(capacity, p, list),
+        4 => sums::sum_mirrored_vanderbeck(capacity, p, list),
+        _ => sums::sum_burdett_johnson(capacity, p, list),
+    }
+}
+
+// The images of a list under a step with q 0, summed modulo 2^64. The step is judged once, and no
+// size is tested: where each is within the capacity, each image is within the scale.
+pub fn sum_family(capacity: u64, family: u8, p: u64, list: &[u32]) -> FamilySum
+    ensures { λ r. ⌜ r ≡ familySum capacity family p (now (list .entry)) ⌝ }
+{
+    let judged = judge_family(capacity, family, p, 0);
+    if judged.number != 0 {
+        return FamilySum {
+            number: judged.number,
+            scale: 0,
+            sum: 0,
+        };
+    }
+    FamilySum {
+        number: 0,
+        scale: judged.scale,
+        sum: sum_accepted(capacity, family, p, list),
+    }
 }
 
 // The quotient rounded up, for the crates above.

@@ -17,10 +17,6 @@ const MOST_BYTES: usize = 65_536;
 // The most places of a buffer.
 const MOST_PLACES: usize = 2_100;
 
-fn low_byte(value: u64) -> u8 {
-    (value % 256) as u8
-}
-
 // Sets count bytes from a place on, as far as they fit, and answers the place behind them.
 fn put_run(job: &mut [u8], from: usize, count: usize, byte: u8) -> usize {
     let mut at = from;
@@ -47,7 +43,7 @@ fn put_runs(text: &[u8], from: usize, job: &mut [u8], runs: usize) -> usize
         let count = decimal::number_at(text, at);
         let byte = decimal::number_at(text, count.next);
         let bytes = buffers::at_most(count.value, MOST_BYTES);
-        end = put_run(job, end, bytes, low_byte(byte.value));
+        end = put_run(job, end, bytes, buffers::low_byte(byte.value));
         at = byte.next;
         i += 1;
     }

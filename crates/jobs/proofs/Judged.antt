@@ -1,13 +1,13 @@
 -- What the refusals of a list and of the steps leave of an accepted job.
 use mathlib.Core.Path.{_≡_, refl, ap, sym, _∙_}
-use mathlib.Core.Bool.{Bool, true, false, cond, _&&_, and-eq-true-iff}
+use mathlib.Core.Bool.{Bool, true, false, cond}
 use mathlib.Core.List.{List, [], _∷_}
 use mathlib.Core.Logic.{_⊎_, ⊎-elim}
-use Prim.Native.Nat.{ℕ, zero, suc, _+_, _-_, _≤_, _<_}
+use Prim.Native.Nat.{ℕ, suc, _+_, _-_, _≤_, _<_}
 use native.Mathlib.Nat.{eq-zero-or-pos}
 use native.Mathlib.Omega.{arith}
-use borrow.Author.Tests.{leb-true, eq-eqb, ne-eqb}
-use lib.Dec.{leb, eqb}
+use borrow.Author.Tests.{eq-eqb, ne-eqb}
+use lib.Dec.{eqb}
 use lib.ListN.{length, getD, take, drop}
 use lib.Seq.{getD-take, getD-drop}
 use Rattle.functions.specs.Words.{limit, capacityFits}
@@ -23,12 +23,7 @@ use Rattle.jobs.specs.Judge.{stepList, Refusal, judgeChain, stepEntries,
 use Rattle.jobs.specs.Job.{plain, judgeFields}
 use Rattle.jobs.specs.Record.{fieldsRead, stepsIn}
 use Rattle.jobs.specs.declared.JobRead.{JobRead}
-
-sizes-most : (least c : ℕ) (sizes : List ℕ) → sizesWithin least c sizes ≡ true → (i : ℕ) → i < length sizes → getD sizes i 0 ≤ c
-unfolding sizesWithin
-sizes-most least c [] e i l = absurd (omega arith)
-sizes-most least c (x ∷ sizes) e zero l = leb-true x c (and-eq-true-iff (leb least x) (leb x c) .0 (and-eq-true-iff (leb least x && leb x c) (sizesWithin least c sizes) .0 e .0) .1)
-sizes-most least c (x ∷ sizes) e (suc i) l = sizes-most least c sizes (and-eq-true-iff (leb least x && leb x c) (sizesWithin least c sizes) .0 e .1) i (omega arith)
+use Rattle.jobs.proofs.SizeTests.{sizes-most}
 
 chain-accepted : (steps : List Step) (c k : ℕ) → judgeChain c k steps .number ≡ 0 → ChainAccepted c steps
 unfolding judgeChain ChainAccepted

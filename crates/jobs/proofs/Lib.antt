@@ -14,3 +14,5 @@ pub mod Finishing
 pub mod Answering
 pub mod Outside
 pub mod Accepted
+pub mod Sweeps
+pub mod Swept

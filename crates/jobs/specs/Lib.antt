@@ -5,3 +5,4 @@ pub mod Record
 pub mod Sizes
 pub mod Judge
 pub mod Job
+pub mod Sweep

@@ -1,17 +1,22 @@
-// Jobs: chains of steps over a list of sizes or a row.
+// Jobs: chains of steps over a list of sizes or a row; and the sweep over a family's parameter.
 mod answer;
 mod apply;
 mod field;
 mod judge;
 mod list;
 mod parse;
+mod sweep;
 
 ghost use mathlib.Core.Path.{_≡_};
+ghost use mathlib.Core.List.{List};
+ghost use Prim.Native.Nat.{ℕ, _≤_};
 ghost use lib.ListN.{length, take};
 ghost use Rattle.tables.specs.Promise.{Overshoots};
 ghost use Rattle.jobs.specs.Fields.{jobFields, jobSteps};
 ghost use Rattle.jobs.specs.Job.{fieldsOf, jobAnswer, imagesAfter, listAfterJob, JobSafe};
 ghost use Rattle.jobs.specs.Judge.{entriesAt};
+ghost use Rattle.jobs.specs.Packing.{Fits, binsUsed};
+ghost use Rattle.jobs.specs.Sweep.{sweepAnswer};
 
 // A step of a job: its tag, and the place of its field in the job.
 pub struct JobStep {
@@ -68,6 +73,15 @@ pub struct JobAnswer {
     pub length: u64,
 }
 
+// The answer to a sweep: the number that refuses it, or 0 with the largest lower bound on bins and
+// the least p that gives it.
+#[repr(C)]
+pub struct SweepAnswer {
+    pub number: u64,
+    pub floor: u64,
+    pub p: u64,
+}
+
 // The job operation: a job is judged whole before any image is written. `images` and `working` have
 // 2,048 places, `list` has 2,047.
 #[no_mangle]
@@ -104,4 +118,23 @@ pub extern "C" fn windowfloor_job(
     }
     let n = read.sizes / 4;
     answer::finish(job, read, capacity, verdict.scale, &mut images[..n])
+}
+
+// The sweep operation: each p from low to high, with q 0.
+#[no_mangle]
+pub extern "C" fn windowfloor_sweep(
+    capacity: u64,
+    family: u8,
+    sizes: &[u32],
+    low: u64,
+    high: u64,
+) -> SweepAnswer
+    ensures answer { λ r. ⌜ r ≡ sweepAnswer capacity family (now (sizes .entry)) low high ⌝ }
+    ensures safe { λ r. ⌜ ((bins : List ℕ) → Fits capacity (now (sizes .entry)) bins → r .floor ≤ binsUsed bins) ⌝ }
+{
+    let number = sweep::refuse_sweep(capacity, family, sizes, low, high);
+    if number != 0 {
+        return sweep::refused(number);
+    }
+    sweep::sweep_range(capacity, family, sizes, low, high)
 }

@@ -12,31 +12,28 @@ use borrow.Author.Needs.{needs}
 use Rattle.functions.proofs.formula.mirrored_vanderbeck.Statement.{statement}
 use Rattle.functions.proofs.formula.mirrored_vanderbeck.Tie as tie
 
-sub-lesser : tie.Need-sub-lesser
-sub-lesser c = search needs
-
-lesser-requires : tie.Need-lesser-requires
-lesser-requires c κs = search needs
+lesser-part-requires : tie.Need-lesser-part-requires
+lesser-part-requires c κs = search needs
 
 mul-round-up : tie.Need-mul-round-up
 mul-round-up c =
     let a = c .before .args in
-    omega (arith, product-most (a .p) (c .lesser .result) (omega arith) (omega arith))
+    omega (arith, product-most (a .p) (c .lesser-part .result) (omega arith) (omega arith))
 
 round-up-requires : tie.Need-round-up-requires
 round-up-requires c κs =
     let a = c .before .args in
-    omega (arith, product-most (a .p) (c .lesser .result) (omega arith) (omega arith))
+    omega (arith, product-most (a .p) (c .lesser-part .result) (omega arith) (omega arith))
 
-lesser-requires-2 : tie.Need-lesser-requires-2
-lesser-requires-2 c κs = search needs
+lesser-requires : tie.Need-lesser-requires
+lesser-requires c κs = search needs
 
 -- the part and what is taken off it
-part-is : (c : tie.After-lesser2) → vanderbeck (c .before .before .before .args .capacity) (c .before .before .before .args .p) (c .before .before .lesser .result) + c .lesser2 .result ≡ c .before .round-up .result
+part-is : (c : tie.After-lesser) → vanderbeck (c .before .before .before .args .capacity) (c .before .before .before .args .p) (c .before .before .lesser-part .result) + c .lesser .result ≡ c .before .round-up .result
 part-is c =
     let a = c .before .before .before .args in
     let pre = c .before .before .before .pre in
-    omega (arith, vanderbeck-is (a .capacity) (a .p) (pre .1) (pre .3) (c .before .before .lesser .result), c .before .round-up .ensures, c .lesser2 .ensures)
+    omega (arith, vanderbeck-is (a .capacity) (a .p) (pre .1) (pre .3) (c .before .before .lesser-part .result), c .before .round-up .ensures, c .lesser .ensures)
 
 sub-part : tie.Need-sub-part
 sub-part c = omega (arith, part-is c)
@@ -47,7 +44,7 @@ sub-mirrored c = search needs
 mirrored-requires : tie.Need-mirrored-requires
 mirrored-requires c κs =
     let a = c .before .before .before .args in
-    let y = c .before .before .lesser .result in
+    let y = c .before .before .lesser-part .result in
     let pre = c .before .before .before .pre in
     let rises = monotone (vanderbeck (a .capacity) (a .p)) (a .capacity) (vanderbeck-superadditive (a .capacity) (a .p) (pre .1) (pre .3)) y (a .capacity) (omega arith) (omega arith) in
     omega (arith, rises, part-is c, vanderbeck-top (a .capacity) (a .p) (pre .1) (pre .3))
@@ -59,17 +56,16 @@ returns c =
     let g = vanderbeck (a .capacity) (a .p) in
     c .mirrored .ensures g
     (omega (arith, vanderbeck-top (a .capacity) (a .p) (before .before .pre .1) (before .before .pre .3)))
-    (ap g (sym (before .lesser .ensures)) ∙ omega (arith, part-is (c .before)))
+    (ap g (sym (before .lesser-part .ensures)) ∙ omega (arith, part-is (c .before)))
 
 pub mirrored-vanderbeck-spec : {M : Type 1} → statement M
 mirrored-vanderbeck-spec =
     tie.close
     (tie.spec
-    sub-lesser
-    lesser-requires
+    lesser-part-requires
     mul-round-up
     round-up-requires
-    lesser-requires-2
+    lesser-requires
     sub-part
     sub-mirrored
     mirrored-requires

@@ -48,7 +48,7 @@ within-requires : tie.Need-within-requires Inv-loop μ-loop
 within-requires c κs = search needs
 
 mirrored-letchford-lodi-requires : tie.Need-mirrored-letchford-lodi-requires Inv-loop μ-loop
-mirrored-letchford-lodi-requires c κs = ready-6 _ _ _ (c .before .before .before .before .before .pre) _ (fit c .fits)
+mirrored-letchford-lodi-requires c κs = ready-6 _ _ _ (c .before .before .before .before .before .pre) _ (fit c .narrow)
 
 cast-sizes : tie.Need-cast-sizes Inv-loop μ-loop
 unfolding familyImage

@@ -38,7 +38,7 @@ within-requires : tie.Need-within-requires Inv-loop μ-loop
 within-requires c κs = search needs
 
 mirrored-quotient-requires : tie.Need-mirrored-quotient-requires Inv-loop μ-loop
-mirrored-quotient-requires c κs = ready-3 _ _ _ (c .before .before .before .before .before .pre) _ (fit c .fits)
+mirrored-quotient-requires c κs = ready-3 _ _ _ (c .before .before .before .before .before .pre) _ (fit c .narrow)
 
 cast-sizes : tie.Need-cast-sizes Inv-loop μ-loop
 unfolding familyImage

@@ -35,7 +35,7 @@ within-requires : tie.Need-within-requires Inv-loop μ-loop
 within-requires c κs = search needs
 
 mirrored-vanderbeck-requires : tie.Need-mirrored-vanderbeck-requires Inv-loop μ-loop
-mirrored-vanderbeck-requires c κs = ready-4 _ _ _ (c .before .before .before .before .before .pre) _ (fit c .fits)
+mirrored-vanderbeck-requires c κs = ready-4 _ _ _ (c .before .before .before .before .before .pre) _ (fit c .narrow)
 
 cast-sizes : tie.Need-cast-sizes Inv-loop μ-loop
 unfolding familyImage

@@ -35,7 +35,7 @@ within-requires : tie.Need-within-requires Inv-loop μ-loop
 within-requires c κs = search needs
 
 rounding-requires : tie.Need-rounding-requires Inv-loop μ-loop
-rounding-requires c κs = ready-2 _ _ _ (c .before .before .before .before .before .pre) _ (fit c .fits)
+rounding-requires c κs = ready-2 _ _ _ (c .before .before .before .before .before .pre) _ (fit c .narrow)
 
 cast-sizes : tie.Need-cast-sizes Inv-loop μ-loop
 unfolding familyImage

@@ -1,16 +1,12 @@
 -- `sizes_within` meets its contract: what is left of the sizes decides.
-use mathlib.Core.Path.{_≡_, refl, sym, ap, _∙_}
-use mathlib.Core.Bool.{_&&_}
-use Prim.Native.Nat.{suc, _-_, _≤_}
-use native.Mathlib.Numerals.{add-one}
+use mathlib.Core.Path.{_≡_, refl, sym, _∙_}
+use Prim.Native.Nat.{_-_, _≤_, _<_}
 use native.Mathlib.Omega.{arith}
-use borrow.Author.Tests.{le-leb, lt-leb}
-use lib.Dec.{leb}
-use lib.ListN.{length, drop, drop-of-length-le}
+use lib.ListN.{length, getD, drop}
 use Rattle.jobs.specs.Fields.{words}
 use Rattle.jobs.specs.Sizes.{sizesWithin}
 use Rattle.jobs.proofs.Words.{words-length, word-of}
-use Rattle.jobs.proofs.SizeTests.{sizes-next}
+use Rattle.jobs.proofs.SizeTests.{size-below, size-above, size-passes, sizes-passed}
 use Rattle.jobs.proofs.list.sizes_within.Statement.{statement}
 use Rattle.jobs.proofs.list.sizes_within.Tie as tie
 
@@ -29,21 +25,24 @@ mul-word-at c = omega arith
 word-at-requires : tie.Need-word-at-requires Inv-loop μ-loop
 word-at-requires c κs = omega arith
 
--- the size that a turn reads decides with the others
-next : (c : tie.After-word-at Inv-loop μ-loop) → sizesWithin (c .before .before .before .before .args .least) (c .before .before .before .before .args .capacity) (words (c .before .before .before .before .args .bytes .now)) ≡ leb (c .before .before .before .before .args .least) (c .word-at .result) && leb (c .word-at .result) (c .before .before .before .before .args .capacity) && sizesWithin (c .before .before .before .before .args .least) (c .before .before .before .before .args .capacity) (drop (suc (c .before .before .loop .i)) (words (c .before .before .before .before .args .bytes .now)))
-next c =
+-- the number that a turn reads is the next of the list
+read-is : (c : tie.After-word-at Inv-loop μ-loop) → c .word-at .result ≡ getD (words (c .before .before .before .before .args .bytes .now)) (c .before .before .loop .i) 0
+read-is c = c .word-at .ensures .0 ∙ word-of _ _ (c .before .before .before .before .pre) _ (c .before .loop-test .taken)
+
+before-end : (c : tie.After-word-at Inv-loop μ-loop) → c .before .before .loop .i < length (words (c .before .before .before .before .args .bytes .now))
+before-end c =
     let start = c .before .before .before .before in
-    let loop = c .before .before .loop in
-    let read = c .word-at .ensures .0 ∙ word-of _ _ (start .pre) (loop .i) (c .before .loop-test .taken) in
-    rw read (loop .inv .1 ∙ sizes-next _ _ _ (loop .i) (omega (arith, words-length (start .args .n) (start .args .bytes .now) (start .pre))))
+    omega (arith, words-length (start .args .n) (start .args .bytes .now) (start .pre))
 
 returns : tie.Need-returns Inv-loop μ-loop
 returns c =
-    sym (next (c .before) ∙ rw (lt-leb _ _ (c .if1 .taken)))
+    let turn = c .before in
+    sym (turn .before .before .loop .inv .1 ∙ size-below _ _ _ _ _ (read-is turn) (before-end turn) (c .if1 .taken))
 
 returns-2 : tie.Need-returns-2 Inv-loop μ-loop
 returns-2 c =
-    sym (next (c .before .before) ∙ rw (le-leb _ _ (c .before .if1 .left), lt-leb _ _ (c .if2 .taken)))
+    let turn = c .before .before in
+    sym (turn .before .before .loop .inv .1 ∙ size-above _ _ _ _ _ (read-is turn) (before-end turn) (c .before .if1 .left) (c .if2 .taken))
 
 add-i : tie.Need-add-i Inv-loop μ-loop
 add-i c = omega arith
@@ -53,14 +52,14 @@ loop-less c = omega arith
 
 loop-again : tie.Need-loop-again Inv-loop μ-loop
 loop-again c =
-    (omega arith, next (c .before .before) ∙ rw (le-leb _ _ (c .before .if1 .left), le-leb _ _ (c .if2 .left), add-one))
+    let turn = c .before .before in
+    (omega arith, turn .before .before .loop .inv .1 ∙ size-passes _ _ _ _ _ (read-is turn) (before-end turn) (c .before .if1 .left) (c .if2 .left))
 
 returns-3 : tie.Need-returns-3 Inv-loop μ-loop
-unfolding sizesWithin
 returns-3 c =
     let start = c .before .before .before in
     let all = words-length (start .args .n) (start .args .bytes .now) (start .pre) in
-    sym (c .before .loop .inv .1 ∙ ap (sizesWithin _ _) (drop-of-length-le (words (start .args .bytes .now)) {i = c .before .loop .i} (omega (arith, all, c .loop-test .left))))
+    sym (c .before .loop .inv .1 ∙ sizes-passed _ _ _ (c .before .loop .i) (omega (arith, all, c .loop-test .left)))
 
 pub sizes-within-spec : {M : Type 1} → statement M
 sizes-within-spec =
