@@ -1,0 +1,349 @@
+/* The library against plain and tuned C, in one run: the three are measured in turns, all rows in
+ * several rounds, and the medians are printed as a table in Markdown. Results are compared before
+ * they are timed. */
+#define _POSIX_C_SOURCE 199309L /* for clock_gettime */
+
+#include <stdio.h>
+#include <stdlib.h>
+#include <string.h>
+#include <time.h>
+
+#include "common.h"
+
+#ifdef __clang__
+#define COMPILER __VERSION__ /* names itself */
+#else
+#define COMPILER "gcc " __VERSION__
+#endif
+
+enum { LIBRARY, PLAIN, TUNED, CONTENDERS };
+enum { IMAGES = 65536, ROUNDS = 4, MOST_SAMPLES = 150, LEAST_SAMPLES = 4 }; /* samples of a round */
+
+static const double SECONDS_OF_A_ROW = 0.2, SECONDS_OF_A_SAMPLE = 20e-6; /* a row of a round */
+
+static const struct contender {
+    const char *name;
+    image_function *image;
+    const struct parts *parts; /* the library has none */
+} contenders[CONTENDERS] = {
+    {"this library", windowfloor_image, NULL},
+    {"plain C", plain_image, &plain_parts},
+    {"tuned C", tuned_image, &tuned_parts},
+};
+
+/* Inputs and outputs of the row that is measured */
+
+static uint64_t capacity;
+static uint8_t family;
+static uint32_t image_inputs[IMAGES][3]; /* p, q, x; too many for branches on them to be learnt */
+static uint32_t table[WINDOWFLOOR_MOST_ENTRIES];
+static size_t entries;
+static uint8_t job[WINDOWFLOOR_MOST_JOB_BYTES];
+static size_t job_bytes;
+static uint32_t sizes[WINDOWFLOOR_MOST_SIZES];
+static const uint64_t low = 1, high = 4096;
+
+static struct {
+    uint64_t answer[8];
+    uint64_t image_answers[IMAGES];
+    uint64_t working[WINDOWFLOOR_JOB_WORKING];
+    uint32_t images[WINDOWFLOOR_JOB_IMAGES], list[WINDOWFLOOR_JOB_LIST];
+} out;
+
+/* One call of each operation */
+
+static void run_images(const struct contender *who)
+{
+    for (size_t i = 0; i < IMAGES; i++) {
+        const uint32_t *in = image_inputs[i];
+        struct windowfloor_image_answer answer =
+            who->image(capacity, family, in[0], in[1], in[2]);
+        out.image_answers[i] = answer.image + (answer.scale << 32) + answer.number;
+    }
+}
+
+static void run_table_check(const struct contender *who)
+{
+    struct windowfloor_table_answer answer =
+        who->parts == NULL
+            ? windowfloor_table_check(table, entries, out.working, WINDOWFLOOR_JOB_WORKING, out.list,
+                                      WINDOWFLOOR_JOB_LIST)
+            : check_table(who->parts, table, entries, out.working, WINDOWFLOOR_JOB_WORKING, out.list,
+                          WINDOWFLOOR_JOB_LIST);
+    memcpy(out.answer, &answer, sizeof answer);
+}
+
+static void run_one_job(const struct contender *who)
+{
+    struct windowfloor_job_answer answer =
+        who->parts == NULL
+            ? windowfloor_job(job, job_bytes, out.images, WINDOWFLOOR_JOB_IMAGES, out.working,
+                              WINDOWFLOOR_JOB_WORKING, out.list, WINDOWFLOOR_JOB_LIST)
+            : run_job(who->parts, job, job_bytes, out.images, WINDOWFLOOR_JOB_IMAGES, out.working,
+                      WINDOWFLOOR_JOB_WORKING, out.list, WINDOWFLOOR_JOB_LIST);
+    memcpy(out.answer, &answer, sizeof answer);
+}
+
+static void run_one_sweep(const struct contender *who)
+{
+    struct windowfloor_sweep_answer answer =
+        who->parts == NULL
+            ? windowfloor_sweep(capacity, family, sizes, WINDOWFLOOR_MOST_SIZES, low, high)
+            : run_sweep(who->parts, capacity, family, sizes, WINDOWFLOOR_MOST_SIZES, low, high);
+    memcpy(out.answer, &answer, sizeof answer);
+}
+
+/* Inputs */
+
+static uint32_t below(uint32_t n)
+{
+    static uint64_t state = 1;
+    state = state * 6364136223846793005u + 1442695040888963407u;
+    return (uint32_t)((state >> 32) % n);
+}
+
+/* Parameters that are accepted, and a size. */
+static void draw_image(uint32_t *in)
+{
+    do {
+        in[0] = 1 + below(family == 2 ? 1000 : (uint32_t)capacity / 2);
+        uint32_t r = (uint32_t)capacity % in[0];
+        in[1] = family < 6 || r == 0 ? 0 : (in[0] - 1) / r + below(3);
+        in[2] = below((uint32_t)capacity + 1);
+    } while (windowfloor_image(capacity, family, in[0], in[1], in[2]).number != 0);
+}
+
+static void prepare_images(int of_family)
+{
+    capacity = 1000000;
+    family = (uint8_t)of_family;
+    for (size_t i = 0; i < IMAGES; i++)
+        draw_image(image_inputs[i]);
+}
+
+/* Entries that never pass their size: every list that fits has images that fit. */
+static void draw_table(void)
+{
+    for (uint32_t x = 0; x < entries; x++)
+        table[x] = x - below(x / 8 + 1);
+    table[entries - 1] = (uint32_t)entries - 1;
+}
+
+static void prepare_table(int of_capacity)
+{
+    entries = (size_t)of_capacity + 1;
+    draw_table();
+}
+
+static void put(uint64_t number, int bytes)
+{
+    while (bytes-- > 0)
+        job[job_bytes++] = (uint8_t)(number >> 8 * bytes);
+}
+
+static void put_header(unsigned tag, size_t length)
+{
+    put(tag, 1);
+    put(length, 2);
+}
+
+static void put_list(uint32_t of_capacity, size_t n)
+{
+    job_bytes = 0;
+    put_header(WINDOWFLOOR_TAG_KIND, 1);
+    put(WINDOWFLOOR_KIND_FLOOR, 1);
+    put_header(WINDOWFLOOR_TAG_CAPACITY, 4);
+    put(of_capacity, 4);
+    put_header(WINDOWFLOOR_TAG_SIZES, 4 * n);
+    while (n-- > 0)
+        put(1 + below(of_capacity), 4);
+}
+
+static void prepare_family_job(int steps)
+{
+    static const uint32_t chain[][3] = {{5, 700, 0}, {2, 3, 0},  {3, 1000, 0}, {4, 300, 0},
+                                        {1, 100, 0}, {6, 7, 10}, {7, 13, 10},  {2, 50, 0}};
+    put_list(1000000, WINDOWFLOOR_MOST_SIZES);
+    for (int i = 0; i < steps; i++) {
+        put_header(WINDOWFLOOR_TAG_FAMILY, 9);
+        put(chain[i][0], 1);
+        put(chain[i][1], 4);
+        put(chain[i][2], 4);
+    }
+}
+
+/* 2,039 sizes: with them the job has 65,535 bytes. */
+static void prepare_table_job(int tables)
+{
+    put_list(2047, 2039);
+    entries = WINDOWFLOOR_MOST_ENTRIES;
+    while (tables-- > 0) {
+        draw_table();
+        put_header(WINDOWFLOOR_TAG_TABLE, 4 * entries);
+        for (size_t x = 0; x < entries; x++)
+            put(table[x], 4);
+    }
+}
+
+/* At this capacity each family has 4,096 legal p from 1 (family 4: from 2) on. */
+static void prepare_sweep(int of_family)
+{
+    capacity = 100003;
+    family = (uint8_t)of_family;
+    for (size_t i = 0; i < WINDOWFLOOR_MOST_SIZES; i++)
+        sizes[i] = 1 + below((uint32_t)capacity);
+}
+
+/* Rows */
+
+struct row {
+    const char *name;
+    void (*prepare)(int with);
+    int with;
+    void (*run)(const struct contender *who);
+    const char *unit;
+    double per_second; /* units */
+    double inputs;     /* of one call */
+};
+
+#define IMAGE_ROW(with, name) {"image, " name, prepare_images, with, run_images, "ns", 1e9, IMAGES}
+#define TABLE_ROW(with, c) {"table check, C = " c, prepare_table, with, run_table_check, "µs", 1e6, 1}
+#define JOB_ROW(with, what) {"job, 2,048 sizes, " what, prepare_family_job, with, run_one_job, "µs", 1e6, 1}
+#define SWEEP_ROW(with, name) \
+    {"sweep, 4,096 p × 2,048 sizes, " name, prepare_sweep, with, run_one_sweep, "ms", 1e3, 1}
+
+static const struct row rows[] = {
+    IMAGE_ROW(1, "family 1 (threshold)"),
+    IMAGE_ROW(2, "family 2 (rounding)"),
+    IMAGE_ROW(3, "family 3 (mirrored quotient)"),
+    IMAGE_ROW(4, "family 4 (mirrored Vanderbeck)"),
+    IMAGE_ROW(5, "family 5 (Burdett-Johnson)"),
+    IMAGE_ROW(6, "family 6 (mirrored Letchford-Lodi)"),
+    IMAGE_ROW(7, "family 7 (Dash-Günlük)"),
+    TABLE_ROW(255, "255"),
+    TABLE_ROW(1023, "1,023"),
+    TABLE_ROW(2047, "2,047"),
+    JOB_ROW(0, "no step"),
+    JOB_ROW(1, "1 family step"),
+    JOB_ROW(8, "8 family steps"),
+    {"job, 2,039 sizes, 7 tables of 2,048 entries", prepare_table_job, 7, run_one_job, "µs", 1e6, 1},
+    SWEEP_ROW(1, "family 1"),
+    SWEEP_ROW(2, "family 2"),
+    SWEEP_ROW(3, "family 3"),
+    SWEEP_ROW(4, "family 4"),
+    SWEEP_ROW(5, "family 5"),
+};
+
+/* Comparing and measuring */
+
+static uint64_t digest(void)
+{
+    const uint8_t *byte = (const uint8_t *)&out;
+    uint64_t sum = 0;
+    for (size_t i = 0; i < sizeof out; i++)
+        sum = (sum ^ byte[i]) * 1099511628211u;
+    return sum;
+}
+
+/* All three accept, and leave the same answers and buffers. (A job's working buffer is free.) */
+static void compare(const struct row *row)
+{
+    uint64_t results[CONTENDERS];
+    for (int who = 0; who < CONTENDERS; who++) {
+        memset(&out, 0, sizeof out);
+        row->run(&contenders[who]);
+        if (row->run == run_one_job)
+            memset(out.working, 0, sizeof out.working);
+        results[who] = digest();
+        if (out.answer[0] != 0 || results[who] != results[LIBRARY]) {
+            fprintf(stderr, "bench: %s: %s refuses or differs\n", row->name, contenders[who].name);
+            exit(1);
+        }
+    }
+}
+
+/* Time of this process alone: other work on the machine counts less. */
+static double now(void)
+{
+    struct timespec t;
+    clock_gettime(CLOCK_PROCESS_CPUTIME_ID, &t);
+    return (double)t.tv_sec + 1e-9 * (double)t.tv_nsec;
+}
+
+static double seconds(const struct row *row, int who, int calls)
+{
+    double start = now();
+    for (int i = 0; i < calls; i++)
+        row->run(&contenders[who]);
+    return now() - start;
+}
+
+struct samples {
+    int calls, count; /* calls of one sample; samples so far */
+    double seconds[CONTENDERS][ROUNDS * MOST_SAMPLES];
+};
+
+static int calls_of_a_sample(const struct row *row)
+{
+    int calls = 1;
+    while (seconds(row, LIBRARY, calls) < SECONDS_OF_A_SAMPLE)
+        calls *= 2;
+    return calls;
+}
+
+static void measure(const struct row *row, struct samples *samples)
+{
+    double end = now() + SECONDS_OF_A_ROW;
+    if (samples->calls == 0)
+        samples->calls = calls_of_a_sample(row);
+    for (int i = 0; i < LEAST_SAMPLES || (i < MOST_SAMPLES && now() < end); i++) {
+        for (int who = 0; who < CONTENDERS; who++)
+            samples->seconds[who][samples->count] = seconds(row, who, samples->calls);
+        samples->count++;
+    }
+}
+
+static int ascending(const void *a, const void *b)
+{
+    double x = *(const double *)a, y = *(const double *)b;
+    return (x > y) - (x < y);
+}
+
+/* The median of one input, in the row's unit. */
+static double median(const struct row *row, struct samples *samples, int who)
+{
+    double *sorted = samples->seconds[who];
+    qsort(sorted, (size_t)samples->count, sizeof *sorted, ascending);
+    return sorted[samples->count / 2] * row->per_second / (samples->calls * row->inputs);
+}
+
+static void print_row(const struct row *row, struct samples *samples)
+{
+    double medians[CONTENDERS];
+    printf("| %s |", row->name);
+    for (int who = 0; who < CONTENDERS; who++) {
+        medians[who] = median(row, samples, who);
+        printf(" %.2f %s |", medians[who], row->unit);
+    }
+    printf(" %.2f | %.2f |\n", medians[LIBRARY] / medians[PLAIN], medians[LIBRARY] / medians[TUNED]);
+}
+
+int main(void)
+{
+    enum { ROWS = sizeof rows / sizeof *rows };
+    static struct samples samples[ROWS];
+    for (int round = 0; round < ROUNDS; round++)
+        for (int i = 0; i < ROWS; i++) {
+            rows[i].prepare(rows[i].with);
+            compare(&rows[i]);
+            measure(&rows[i], &samples[i]);
+        }
+    printf("C compiled by %s, -O3; medians of %d rounds\n\n", COMPILER, ROUNDS);
+    printf("| | %s | %s | %s | to plain | to tuned |\n", contenders[LIBRARY].name,
+           contenders[PLAIN].name, contenders[TUNED].name);
+    printf("|---|---:|---:|---:|---:|---:|\n");
+    for (int i = 0; i < ROWS; i++)
+        print_row(&rows[i], &samples[i]);
+    printf("\n");
+    return 0;
+}

@@ -1,0 +1,87 @@
+/* What plain and tuned C share: the tests of a step, and all but the inner loops of the operations. */
+#ifndef COMMON_H
+#define COMMON_H
+
+#include "windowfloor.h"
+
+static const uint64_t LIMIT = WINDOWFLOOR_LIMIT;
+
+static inline uint64_t round_up(uint64_t a, uint64_t b)
+{
+    return (a + (b - 1)) / b;
+}
+
+static inline int legal(uint64_t capacity, uint8_t family, uint64_t p, uint64_t q)
+{
+    if (p > LIMIT || q > LIMIT || (family <= 5 && q != 0))
+        return 0;
+    switch (family) {
+    case 1: return 2 * p <= capacity;
+    case 2: return p >= 1;
+    case 3: return p >= 1 && 2 * p <= capacity;
+    case 4: return p >= 2 && p <= capacity;
+    case 5: return p >= 1 && p <= capacity;
+    default: return p >= 1 && p <= capacity && capacity % p > 0 && (q + 1) * (capacity % p) >= p;
+    }
+}
+
+/* The scale of a legal step. */
+static inline uint64_t scale_of(uint64_t capacity, uint8_t family, uint64_t p, uint64_t q)
+{
+    switch (family) {
+    case 1: return capacity;
+    case 2: return capacity * p;
+    case 3: return 2 * (capacity / p);
+    case 4: return 2 * (p - 1);
+    case 5: return capacity / p * (p - capacity % p);
+    case 6: return 2 * ((q + 1) * (capacity / p));
+    default: return capacity / p * (p - capacity % p) * (q + 1);
+    }
+}
+
+/* The refusal of a family step, or 0 and its scale. */
+static inline uint64_t judge_family(uint64_t capacity, uint8_t family, uint64_t p, uint64_t q,
+                                    uint64_t *scale)
+{
+    if (capacity < 1 || capacity > LIMIT)
+        return WINDOWFLOOR_BAD_CAPACITY;
+    if (family < 1 || family > WINDOWFLOOR_FAMILIES)
+        return WINDOWFLOOR_BAD_FAMILY;
+    if (!legal(capacity, family, p, q))
+        return WINDOWFLOOR_BAD_PARAMETER;
+    *scale = scale_of(capacity, family, p, q);
+    return *scale > LIMIT ? WINDOWFLOOR_SCALE_TOO_LARGE : 0;
+}
+
+/* Where plain and tuned C differ. */
+typedef struct windowfloor_image_answer image_function(uint64_t capacity, uint8_t family, uint64_t p,
+                                                       uint64_t q, uint64_t x);
+
+image_function plain_image, tuned_image;
+
+struct parts {
+    void (*fill_bests)(const uint32_t *table, size_t capacity, uint64_t *best);
+    void (*map_family)(uint64_t capacity, uint8_t family, uint64_t p, uint64_t q, uint32_t *list,
+                       size_t n);
+    uint64_t (*sum_of_images)(uint64_t capacity, uint8_t family, uint64_t p, const uint32_t *sizes,
+                              size_t n);
+};
+
+extern const struct parts plain_parts, tuned_parts;
+
+/* The other operations, made of these parts. */
+struct windowfloor_table_answer check_table(const struct parts *parts,
+                                            const uint32_t *table, size_t entries,
+                                            uint64_t *working, size_t working_places,
+                                            uint32_t *list, size_t list_places);
+
+struct windowfloor_job_answer run_job(const struct parts *parts, const uint8_t *job, size_t bytes,
+                                      uint32_t *images, size_t images_places,
+                                      uint64_t *working, size_t working_places,
+                                      uint32_t *list, size_t list_places);
+
+struct windowfloor_sweep_answer run_sweep(const struct parts *parts, uint64_t capacity,
+                                          uint8_t family, const uint32_t *sizes, size_t n,
+                                          uint64_t low, uint64_t high);
+
+#endif

@@ -1,0 +1,170 @@
+/* The operations tuned: the family is chosen once, a step is prepared once, mirrored families fold
+ * y = min(x, C - x), formulas have no branches on data, and the table check looks at half of the sums,
+ * two at a time. */
+#include "common.h"
+
+/* What a step's formula needs and the size does not change. */
+struct prepared {
+    uint32_t capacity, p, r, gap; /* r and gap of families 5 to 7 */
+    uint64_t q, top;              /* top: the base of a mirrored family at the capacity */
+};
+
+static inline uint32_t lesser(uint32_t a, uint32_t b)
+{
+    return a < b ? a : b;
+}
+
+/* How far a is above b, or 0. */
+static inline uint32_t excess(uint32_t a, uint32_t b)
+{
+    return (a > b ? a : b) - b;
+}
+
+static inline uint64_t mirrored(const struct prepared *s, uint64_t part, uint64_t x)
+{
+    uint64_t below = 2 * part, above = 2 * s->top - below;
+    uint64_t image = 2 * x < s->capacity ? below : above;
+    return 2 * x == s->capacity ? s->top : image;
+}
+
+static inline uint64_t threshold(const struct prepared *s, uint32_t x)
+{
+    uint32_t kept = x < s->p ? 0 : x;
+    return x > s->capacity - s->p ? s->capacity : kept;
+}
+
+static inline uint64_t rounding(const struct prepared *s, uint32_t x)
+{
+    uint64_t scaled = (uint64_t)x * (s->p + 1);
+    uint64_t whole = scaled / s->capacity * s->capacity;
+    return whole == scaled ? whole - x : whole;
+}
+
+static inline uint64_t quotient(const struct prepared *s, uint32_t x)
+{
+    return mirrored(s, lesser(x, s->capacity - x) / s->p, x);
+}
+
+static inline uint64_t vanderbeck(const struct prepared *s, uint32_t x)
+{
+    uint32_t y = lesser(x, s->capacity - x);
+    return mirrored(s, ((uint64_t)s->p * y - (y > 0)) / s->capacity, x);
+}
+
+static inline uint64_t burdett_johnson(const struct prepared *s, uint32_t x)
+{
+    return (uint64_t)(x / s->p) * s->gap + excess(x % s->p, s->r);
+}
+
+static inline uint64_t letchford_lodi(const struct prepared *s, uint32_t x)
+{
+    uint32_t y = lesser(x, s->capacity - x);
+    uint64_t theta = round_up(excess(y % s->p, s->r) * s->q, s->gap);
+    return mirrored(s, (s->q + 1) * (y / s->p) + theta, x);
+}
+
+static inline uint64_t dash_gunluk(const struct prepared *s, uint32_t x)
+{
+    uint64_t b = excess(x % s->p, s->r), n = b * s->q;
+    uint64_t whole = round_up(n, s->gap) * s->gap;
+    uint64_t added = whole == n ? n + b : whole;
+    return (uint64_t)(x / s->p) * s->gap * (s->q + 1) + added;
+}
+
+static inline struct prepared prepare(uint64_t capacity, uint8_t family, uint64_t p, uint64_t q)
+{
+    struct prepared s = {(uint32_t)capacity, (uint32_t)p, 0, 0, q, 0};
+    switch (family) {
+    case 3: s.top = s.capacity / s.p; break;
+    case 4: s.top = p - 1; break;
+    case 5: case 6: case 7:
+        s.r = s.capacity % s.p;
+        s.gap = s.p - s.r;
+        s.top = (q + 1) * (s.capacity / s.p);
+        break;
+    }
+    return s;
+}
+
+/* Puts a statement behind each family, so that the choice is made once and each has its own code. */
+#define FOR_FAMILY(family, STATEMENT)                                                             \
+    switch (family) {                                                                             \
+    case 1: STATEMENT(1, threshold) break;                                                        \
+    case 2: STATEMENT(2, rounding) break;                                                         \
+    case 3: STATEMENT(3, quotient) break;                                                         \
+    case 4: STATEMENT(4, vanderbeck) break;                                                       \
+    case 5: STATEMENT(5, burdett_johnson) break;                                                  \
+    case 6: STATEMENT(6, letchford_lodi) break;                                                   \
+    case 7: STATEMENT(7, dash_gunluk) break;                                                      \
+    }
+
+static void map_family(uint64_t capacity, uint8_t family, uint64_t p, uint64_t q, uint32_t *list,
+                       size_t n)
+{
+    const struct prepared s = prepare(capacity, family, p, q);
+#define EACH(k, formula)           \
+    for (size_t i = 0; i < n; i++) \
+        list[i] = (uint32_t)formula(&s, list[i]);
+    FOR_FAMILY(family, EACH)
+#undef EACH
+}
+
+static uint64_t sum_of_images(uint64_t capacity, uint8_t family, uint64_t p, const uint32_t *sizes,
+                              size_t n)
+{
+    const struct prepared s = prepare(capacity, family, p, 0);
+    uint64_t sum = 0;
+#define ADD(k, formula)            \
+    for (size_t i = 0; i < n; i++) \
+        sum += formula(&s, sizes[i]);
+    FOR_FAMILY(family, ADD)
+#undef ADD
+    return sum;
+}
+
+static inline uint64_t refusal(uint64_t capacity, uint8_t family, uint64_t p, uint64_t q, uint64_t x,
+                               uint64_t *scale)
+{
+    uint64_t number = judge_family(capacity, family, p, q, scale);
+    return number == 0 && x > capacity ? WINDOWFLOOR_SIZE_OVER_CAPACITY : number;
+}
+
+struct windowfloor_image_answer tuned_image(uint64_t capacity, uint8_t family, uint64_t p,
+                                            uint64_t q, uint64_t x)
+{
+    struct windowfloor_image_answer answer = {0, 0, 0};
+    uint64_t scale = 0;
+#define ANSWER(k, formula)                                               \
+    if ((answer.number = refusal(capacity, k, p, q, x, &scale)) == 0) {  \
+        const struct prepared s = prepare(capacity, k, p, q);            \
+        answer.image = formula(&s, (uint32_t)x);                         \
+        answer.scale = scale;                                            \
+    }                                                                    \
+    return answer;
+    FOR_FAMILY(family, ANSWER)
+#undef ANSWER
+    answer.number = refusal(capacity, family, p, q, x, &scale);
+    return answer;
+}
+
+static inline uint64_t greater(uint64_t a, uint64_t b)
+{
+    return a < b ? b : a;
+}
+
+/* A list of two or more sizes splits in two lists, of which one fits half of the capacity. */
+static void fill_bests(const uint32_t *table, size_t capacity, uint64_t *best)
+{
+    best[0] = 0;
+    for (size_t c = 1; c <= capacity; c++) {
+        uint64_t most = table[c];
+        size_t y = 1;
+        for (; y + 2 <= c - y; y += 2)
+            most = greater(most, greater(best[y] + best[c - y], best[y + 1] + best[c - y - 1]));
+        if (y <= c - y)
+            most = greater(most, best[y] + best[c - y]);
+        best[c] = most;
+    }
+}
+
+const struct parts tuned_parts = {fill_bests, map_family, sum_of_images};

@@ -1,0 +1,138 @@
+/* windowfloor: floors (lower bounds on the windows that a list of sizes needs) and cuts, by
+ * dual-feasible functions. Link target/libwindowfloor.a; no other library is needed.
+ *
+ * Every operation ends, is defined for all numbers and lengths, keeps no state and allocates
+ * nothing. An answer's `number` is 0 when the call is accepted, else the number of its refusal;
+ * fields that a refusal does not name are 0.
+ *
+ * A buffer is a pointer and a number of places. The pointer is never null, also where the number of
+ * places is 0; it is aligned for its type, and that many places can be read and, unless const,
+ * written. The buffers of one call do not overlap. Places that are not said to be written keep
+ * what they hold. */
+#ifndef WINDOWFLOOR_H
+#define WINDOWFLOOR_H
+
+#include <stddef.h>
+#include <stdint.h>
+
+#ifdef __cplusplus
+extern "C" {
+#endif
+
+/* Limits. */
+enum {
+    WINDOWFLOOR_LIMIT = 1000000000,     /* the greatest capacity, parameter, scale and table entry */
+    WINDOWFLOOR_FAMILIES = 7,           /* families are 1 to 7 */
+    WINDOWFLOOR_SWEEP_FAMILIES = 5,     /* those without q, 1 to 5, can be swept */
+    WINDOWFLOOR_MOST_ENTRIES = 2048,    /* entries of a table; its capacity is one less */
+    WINDOWFLOOR_MOST_SIZES = 2048,      /* sizes of a job or of a sweep */
+    WINDOWFLOOR_MOST_STEPS = 8,         /* steps of a job */
+    WINDOWFLOOR_MOST_JOB_BYTES = 65535, /* bytes of a job */
+    WINDOWFLOOR_MOST_SPAN = 4095,       /* high - low of a sweep */
+    WINDOWFLOOR_JOB_IMAGES = 2048,      /* least places of a job's image buffer, whatever the job */
+    WINDOWFLOOR_JOB_WORKING = 2048,     /* least places of a job's working buffer */
+    WINDOWFLOOR_JOB_LIST = 2047         /* least places of a job's list buffer */
+};
+
+/* The bytes of a job: fields of a tag, a two-byte length and a value. Tags 1, 2, 3 once each in this
+ * order, then 0 to 8 steps. Numbers are unsigned, high byte first. */
+enum {
+    WINDOWFLOOR_TAG_KIND = 1,     /* length 1: one of the kinds below */
+    WINDOWFLOOR_TAG_CAPACITY = 2, /* length 4 */
+    WINDOWFLOOR_TAG_SIZES = 3,    /* length 4n, n up to 2,048: sizes, or the coefficients of a row */
+    WINDOWFLOOR_TAG_FAMILY = 4,   /* length 9: a step: family byte, p, q */
+    WINDOWFLOOR_TAG_TABLE = 5,    /* length 8 to 8,192: a step: four bytes for each entry */
+
+    WINDOWFLOOR_KIND_FLOOR = 1,
+    WINDOWFLOOR_KIND_CUT = 2
+};
+
+/* The numbers of refusal. */
+enum {
+    WINDOWFLOOR_ACCEPTED = 0,
+    WINDOWFLOOR_BAD_CAPACITY = 1,       /* the capacity is 0 or over 1,000,000,000 */
+    WINDOWFLOOR_BAD_FAMILY = 2,         /* no such family */
+    WINDOWFLOOR_BAD_PARAMETER = 3,      /* p or q is not legal for the family */
+    WINDOWFLOOR_SCALE_TOO_LARGE = 4,    /* the scale would pass 1,000,000,000 */
+    WINDOWFLOOR_SIZE_OVER_CAPACITY = 5, /* the size is over the capacity */
+    WINDOWFLOOR_BAD_COUNT = 6,          /* a table of under 2 or over 2,048 entries; over 2,048 sizes in a sweep */
+    WINDOWFLOOR_SHORT_BUFFER = 7,       /* a lent buffer is too short */
+    WINDOWFLOOR_FIRST_ENTRY_NOT_0 = 8,  /* the table's first entry is not 0 */
+    WINDOWFLOOR_LAST_ENTRY_0 = 9,       /* the table's last entry is 0 */
+    WINDOWFLOOR_ENTRY_TOO_LARGE = 10,   /* a table entry is over 1,000,000,000 */
+    WINDOWFLOOR_NOT_DUAL_FEASIBLE = 11, /* the table is not dual-feasible: the list buffer shows it */
+    WINDOWFLOOR_JOB_TOO_LONG = 12,      /* the job has more than 65,535 bytes */
+    WINDOWFLOOR_PAST_THE_END = 13,      /* a field's header or value runs past the end of the job */
+    WINDOWFLOOR_BAD_TAG = 14,           /* a tag out of place or unknown, a ninth step, or no tag 3 */
+    WINDOWFLOOR_BAD_LENGTH = 15,        /* a field of a wrong length */
+    WINDOWFLOOR_BAD_KIND = 16,          /* the kind is neither 1 (floor) nor 2 (cut) */
+    WINDOWFLOOR_BAD_SIZE = 17,          /* a size is over the capacity, or is 0 in a list (not in a row) */
+    WINDOWFLOOR_OTHER_CAPACITY = 18,    /* a table step of another capacity than the present one */
+    WINDOWFLOOR_BAD_RANGE = 19,         /* the range of p is empty or has more than 4,096 values */
+    WINDOWFLOOR_NO_LEGAL_P = 20         /* no p of the range is legal with a scale within the limit */
+};
+
+/* The image of a size under one family. q is 0 for families 1 to 5.
+ * Refusals, in order: 1, 2, 3, 4, 5. */
+struct windowfloor_image_answer {
+    uint64_t number;
+    uint64_t image;
+    uint64_t scale; /* the image of the capacity */
+};
+
+struct windowfloor_image_answer windowfloor_image(uint64_t capacity, uint8_t family, uint64_t p,
+                                                  uint64_t q, uint64_t x);
+
+/* Whether a table of images is dual-feasible. Entry x is the image of x; the capacity C is
+ * entries - 1. `working` has at least `entries` places, `list` at least C.
+ * Refusals, in order: 6, 7, 8, 9, 10, 11. Refusals 6 to 10 write nothing. Acceptance and 11 write the
+ * greatest totals best(0) to best(C) to the first C + 1 places of `working`. 11 also writes
+ * `length` sizes to `list`: they total at most C, and their images total more than the last entry. */
+struct windowfloor_table_answer {
+    uint64_t number;
+    uint64_t length;
+};
+
+struct windowfloor_table_answer windowfloor_table_check(const uint32_t *table, size_t entries,
+                                                        uint64_t *working, size_t working_places,
+                                                        uint32_t *list, size_t list_places);
+
+/* A job: the sizes taken through its steps, for a floor or a cut. The buffers have at least the
+ * places named above.
+ * Refusals, in order: 12, 7; for each field 13, 14, 15; then 16, 1, 17; then for each step 2, 3, 4 of
+ * a family, or 8, 9, 10, 11, 18 of a table.
+ * Accepted: the first n places of `images` hold the images. A refusal leaves `images` as it was.
+ * `list` is written for 11 alone, as in the table check. Afterwards `working` may hold anything. */
+struct windowfloor_job_answer {
+    uint64_t number;
+    uint64_t n;      /* the number of sizes */
+    uint64_t floor;  /* no assignment of the sizes uses fewer windows; 0 for a cut */
+    uint64_t sum;    /* the sum of the images; 0 for a cut */
+    uint64_t scale;  /* the right side of a cut whose coefficients are the images */
+    uint64_t step;   /* the place, 1 to 8, of the step that is refused */
+    uint64_t length; /* at 11, the number of sizes in `list` */
+};
+
+struct windowfloor_job_answer windowfloor_job(const uint8_t *job, size_t bytes,
+                                              uint32_t *images, size_t images_places,
+                                              uint64_t *working, size_t working_places,
+                                              uint32_t *list, size_t list_places);
+
+/* The largest floor that one step of a family (1 to 5) gives, over all p from low to high that are
+ * legal with a scale within the limit, and the least p that gives it.
+ * Refusals, in order: 1, 2, 6, 17, 19, 20. */
+struct windowfloor_sweep_answer {
+    uint64_t number;
+    uint64_t floor;
+    uint64_t p;
+};
+
+struct windowfloor_sweep_answer windowfloor_sweep(uint64_t capacity, uint8_t family,
+                                                  const uint32_t *sizes, size_t n,
+                                                  uint64_t low, uint64_t high);
+
+#ifdef __cplusplus
+}
+#endif
+
+#endif

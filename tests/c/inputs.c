@@ -1,0 +1,533 @@
+#include "inputs.h"
+
+#include <string.h>
+
+#include "reference.h"
+
+static const uint64_t LIMIT = WINDOWFLOOR_LIMIT;
+static const uint64_t TWO_TO_32 = (uint64_t)1 << 32;
+
+/* Numbers */
+
+static uint64_t state;
+
+void seed_inputs(uint64_t seed)
+{
+    state = seed;
+}
+
+uint64_t any_number(void)
+{
+    uint64_t z = state += 0x9E3779B97F4A7C15u;
+    z = (z ^ (z >> 30)) * 0xBF58476D1CE4E5B9u;
+    z = (z ^ (z >> 27)) * 0x94D049BB133111EBu;
+    return z ^ (z >> 31);
+}
+
+uint64_t below(uint64_t n)
+{
+    return any_number() % n;
+}
+
+static int one_in(uint64_t n)
+{
+    return below(n) == 0;
+}
+
+static uint64_t lesser(uint64_t a, uint64_t b)
+{
+    return a < b ? a : b;
+}
+
+/* 0 to n - 1, with both ends often. */
+static uint64_t ends_below(uint64_t n)
+{
+    switch (below(4)) {
+    case 0: return below(lesser(n, 4));
+    case 1: return n - 1 - below(lesser(n, 4));
+    default: return below(n);
+    }
+}
+
+/* Capacities, steps and sizes */
+
+static uint64_t legal_capacity(void)
+{
+    switch (below(8)) {
+    case 0: return 1 + below(6);
+    case 1: return 1 + below(2047);
+    case 2: return 1 + below(100000);
+    case 3: return 1 + below(LIMIT);
+    case 4: return LIMIT - below(3);
+    default: return 1 + below(40);
+    }
+}
+
+/* Those over 32 bits would be legal if they were cut to 32. */
+static uint64_t illegal_capacity(void)
+{
+    switch (below(4)) {
+    case 0: return 0;
+    case 1: return LIMIT + 1 + below(3);
+    case 2: return TWO_TO_32 + 1 + below(100);
+    default: return any_number() | TWO_TO_32;
+    }
+}
+
+struct family_step {
+    uint8_t family;
+    uint64_t p, q;
+};
+
+/* How many whole numbers from 0 up are worth trying as p: the last ones are legal, or nearly. */
+static uint64_t parameters(uint64_t capacity, uint8_t family)
+{
+    switch (family) {
+    case 1: case 3: return capacity / 2 + 1;
+    case 2: return LIMIT / capacity + 2;
+    default: return capacity + 1;
+    }
+}
+
+static uint64_t least_q(uint64_t capacity, uint64_t p)
+{
+    uint64_t r = p == 0 ? 0 : capacity % p;
+    return r == 0 ? 0 : (p - 1) / r;
+}
+
+/* The q at which family 6 or 7 comes to the limit of the scale. */
+static uint64_t greatest_q(uint64_t capacity, uint8_t family, uint64_t p)
+{
+    uint64_t scale = p == 0 ? 1 : family == 6 ? 2 * (capacity / p)
+                                              : (p - capacity % p) * (capacity / p);
+    return LIMIT / (scale == 0 ? 1 : scale);
+}
+
+static void spoil_step(struct family_step *s)
+{
+    switch (below(8)) {
+    case 0: s->family = (uint8_t)(below(2) ? 0 : 8 + below(248)); break;
+    case 1: s->p = LIMIT + below(2); break;
+    case 2: s->q = LIMIT + below(2); break;
+    case 3: s->p += TWO_TO_32; break;
+    case 4: s->q += 1 + below(3); break;
+    case 5: s->q -= 1; break;
+    case 6: s->p = below(LIMIT); break;
+    default: s->p = any_number(); break;
+    }
+}
+
+/* Mostly a legal step; one in `spoiled` is spoiled on purpose. */
+static struct family_step random_step(uint64_t capacity, uint64_t spoiled)
+{
+    struct family_step s = {(uint8_t)(1 + below(7)), 0, 0};
+    s.p = ends_below(parameters(capacity, s.family));
+    if (s.p == 0 && s.family != 1 && !one_in(20))
+        s.p = 1 + (s.family == 4);
+    if (s.family >= 6) {
+        for (int tries = 0; tries < 8 && (s.p == 0 || capacity % s.p == 0); tries++)
+            s.p = 1 + below(capacity);
+        s.q = least_q(capacity, s.p) + below(4);
+        if (one_in(8))
+            s.q = greatest_q(capacity, s.family, s.p) - below(3);
+    }
+    if (one_in(spoiled))
+        spoil_step(&s);
+    return s;
+}
+
+static uint64_t random_size(uint64_t capacity, uint64_t least)
+{
+    uint64_t x = one_in(4) ? capacity / 2 + below(2) : ends_below(capacity + 1);
+    return x < least ? least : x;
+}
+
+/* A size near a place where the step's formula changes. */
+static uint64_t edge_size(uint64_t capacity, struct family_step s)
+{
+    uint64_t times = s.p == 0 ? 0 : below(capacity / lesser(s.p, capacity) + 1);
+    uint64_t x = one_in(3) ? capacity - lesser(s.p, capacity) : times * s.p;
+    if (s.family >= 5 && s.p != 0 && below(2))
+        x += capacity % s.p;
+    return lesser(x + below(2), capacity);
+}
+
+void random_image(struct image_input *in)
+{
+    uint64_t capacity = legal_capacity();
+    struct family_step s = random_step(capacity, 8);
+    in->capacity = one_in(25) ? illegal_capacity() : capacity;
+    in->family = s.family;
+    in->p = s.p;
+    in->q = s.q;
+    in->x = below(2) ? edge_size(capacity, s) : random_size(capacity, 0);
+    if (one_in(20))
+        in->x = one_in(2) ? capacity + 1 + below(3) : TWO_TO_32 + below(capacity);
+}
+
+/* Tables */
+
+static size_t table_capacity(void)
+{
+    if (one_in(1000))
+        return 2040 + below(8);
+    if (one_in(60))
+        return 1 + below(300);
+    return 1 + below(one_in(4) ? 50 : 12);
+}
+
+static void set_last_to_best(uint32_t *entries, size_t capacity, uint64_t less)
+{
+    static uint64_t best[ROOM_ENTRIES];
+    entries[capacity] = 0;
+    reference_bests(entries, capacity, best);
+    uint64_t last = best[capacity] > less ? best[capacity] - less : 1;
+    entries[capacity] = (uint32_t)lesser(last, LIMIT);
+}
+
+static void images_as_table(uint32_t *entries, size_t capacity)
+{
+    struct family_step s = random_step(capacity, 1000);
+    for (int tries = 0; tries < 4 && reference_image(capacity, s.family, s.p, s.q, 0).number; tries++)
+        s = random_step(capacity, 1000);
+    for (size_t x = 0; x <= capacity; x++)
+        entries[x] = (uint32_t)reference_image(capacity, s.family, s.p, s.q, x).image;
+}
+
+static uint32_t random_entry(uint64_t top, int sparse)
+{
+    return sparse && !one_in(4) ? 0 : (uint32_t)below(top);
+}
+
+static void random_entries(uint32_t *entries, size_t capacity)
+{
+    uint64_t top = one_in(8) ? LIMIT + 1 : 2 + below(one_in(3) ? 200 : 6);
+    int sparse = one_in(2);
+    entries[0] = 0;
+    for (size_t x = 1; x <= capacity; x++)
+        entries[x] = random_entry(top, sparse);
+    switch (below(8)) {
+    case 0: break;
+    case 1: set_last_to_best(entries, capacity, 1); break;
+    default: set_last_to_best(entries, capacity, 0); break;
+    }
+}
+
+static void fill_table(uint32_t *entries, size_t capacity)
+{
+    if (below(2))
+        images_as_table(entries, capacity);
+    else
+        random_entries(entries, capacity);
+}
+
+static void spoil_table(uint32_t *entries, size_t count)
+{
+    if (below(2))
+        entries[below(count)] = (uint32_t)(one_in(2) ? LIMIT + 1 : LIMIT + below(3 * LIMIT));
+    if (below(2))
+        entries[count - 1] = 0;
+    if (below(2))
+        entries[0] = (uint32_t)(1 + below(TWO_TO_32 - 1));
+}
+
+/* As many places as are needed, or more; one in `too_short` has fewer. */
+static size_t some_places(size_t needed, uint64_t too_short)
+{
+    if (needed > 0 && one_in(too_short))
+        return one_in(4) ? below(needed) : needed - 1;
+    return below(2) ? needed : needed + 1 + below(20);
+}
+
+void random_table(struct table_input *in)
+{
+    size_t capacity = table_capacity();
+    fill_table(in->entries, capacity);
+    in->count = capacity + 1;
+    if (one_in(8))
+        spoil_table(in->entries, in->count);
+    in->working_places = some_places(in->count, 40);
+    in->list_places = some_places(capacity, 40);
+    if (one_in(50)) {
+        in->count = below(2) ? below(2) : 2049 + below(3);
+        memset(in->entries, 0, sizeof in->entries);
+    }
+}
+
+/* Jobs */
+
+static void put_byte(struct job_input *in, uint64_t byte)
+{
+    in->bytes[in->length++] = (uint8_t)byte;
+}
+
+static void put_number(struct job_input *in, uint64_t number)
+{
+    for (int shift = 24; shift >= 0; shift -= 8)
+        put_byte(in, number >> shift);
+}
+
+static void put_header(struct job_input *in, unsigned tag, size_t length)
+{
+    in->field_at[in->fields++] = in->length;
+    put_byte(in, tag);
+    put_byte(in, length >> 8);
+    put_byte(in, length);
+}
+
+static void put_head(struct job_input *in, unsigned kind, uint64_t capacity, size_t n)
+{
+    in->length = in->fields = 0;
+    put_header(in, 1, 1);
+    put_byte(in, kind);
+    put_header(in, 2, 4);
+    put_number(in, capacity);
+    put_header(in, 3, 4 * n);
+}
+
+static void put_sizes(struct job_input *in, unsigned kind, uint64_t capacity, size_t n)
+{
+    for (size_t i = 0; i < n; i++)
+        put_number(in, random_size(capacity, kind == 1));
+}
+
+static void put_family(struct job_input *in, struct family_step s)
+{
+    put_header(in, 4, 9);
+    put_byte(in, s.family);
+    put_number(in, s.p);
+    put_number(in, s.q);
+}
+
+static void put_table(struct job_input *in, const uint32_t *entries, size_t count)
+{
+    put_header(in, 5, 4 * count);
+    for (size_t x = 0; x < count; x++)
+        put_number(in, entries[x]);
+}
+
+/* Each step gets the present capacity and answers the next one. */
+static uint64_t put_random_family(struct job_input *in, uint64_t present)
+{
+    struct family_step s = random_step(present, 60);
+    struct windowfloor_image_answer at_0 = reference_image(present, s.family, s.p, s.q, 0);
+    put_family(in, s);
+    return at_0.number == 0 ? at_0.scale : present;
+}
+
+static uint64_t put_random_table(struct job_input *in, uint64_t present)
+{
+    uint32_t entries[ROOM_ENTRIES];
+    size_t capacity = one_in(30) ? table_capacity() : present;
+    fill_table(entries, capacity);
+    if (one_in(30))
+        spoil_table(entries, capacity + 1);
+    put_table(in, entries, capacity + 1);
+    return entries[capacity] == 0 || entries[capacity] > LIMIT ? present : entries[capacity];
+}
+
+static uint64_t put_random_step(struct job_input *in, uint64_t present)
+{
+    int small = present <= 60 || (present <= 2047 && one_in(20));
+    if ((small && below(2)) || one_in(100))
+        return put_random_table(in, small ? present : table_capacity());
+    return put_random_family(in, present);
+}
+
+static size_t random_steps(void)
+{
+    return one_in(30) ? 9 : below(9);
+}
+
+static size_t random_count(void)
+{
+    if (one_in(400))
+        return 2048 - below(2);
+    return below(one_in(20) ? 300 : 12);
+}
+
+/* Where a field ends that starts at place k of the fields. */
+static size_t field_end(const struct job_input *in, size_t k)
+{
+    return k + 1 < in->fields ? in->field_at[k + 1] : in->length;
+}
+
+static void move_tail(struct job_input *in, size_t from, size_t to)
+{
+    memmove(in->bytes + to, in->bytes + from, in->length - from);
+    in->length = in->length - from + to;
+}
+
+static void double_field(struct job_input *in, size_t k, size_t before)
+{
+    size_t at = in->field_at[k], to = in->field_at[before], length = field_end(in, k) - at;
+    uint8_t copy[3 + 65535];
+    memcpy(copy, in->bytes + at, length);
+    move_tail(in, to, to + length);
+    memcpy(in->bytes + to, copy, length);
+}
+
+static void write_number(struct job_input *in, size_t at, uint64_t number)
+{
+    size_t length = in->length;
+    in->length = at;
+    put_number(in, number);
+    in->length = length;
+}
+
+static void pad_to(struct job_input *in, size_t length)
+{
+    while (in->length < length)
+        put_byte(in, below(256));
+}
+
+static void spoil_size(struct job_input *in)
+{
+    size_t n = (field_end(in, 2) - 14) / 4;
+    if (n > 0)
+        write_number(in, 14 + 4 * below(n), one_in(2) ? 0 : LIMIT + 1 + below(3 * LIMIT));
+}
+
+/* Damage to whole fields: cut, left out, twice, or more behind the last. */
+static void damage_fields(struct job_input *in)
+{
+    size_t k = below(in->fields), at = in->field_at[k];
+    switch (below(6)) {
+    case 0: in->length = below(in->length + 1); break;
+    case 1: in->length = at + below(4); break;
+    case 2: move_tail(in, field_end(in, k), at); break;
+    case 3: double_field(in, k, below(in->fields)); break;
+    case 4: pad_to(in, in->length + 1 + below(4)); break;
+    default: pad_to(in, one_in(4) ? 65535 + below(4) : in->length + below(30)); break;
+    }
+}
+
+/* Damage to single bytes and numbers. */
+static void damage_values(struct job_input *in)
+{
+    size_t header = in->field_at[below(in->fields)] + below(3), any = below(in->length);
+    switch (below(7)) {
+    case 0: in->bytes[any] ^= (uint8_t)(1 << below(8)); break;
+    case 1: in->bytes[any] = (uint8_t)below(256); break;
+    case 2: in->bytes[header] += (uint8_t)(below(2) ? 1 : 255); break;
+    case 3: in->bytes[header] = (uint8_t)below(256); break;
+    case 4: in->bytes[3] = (uint8_t)below(256); break;
+    case 5: write_number(in, 7, illegal_capacity()); break;
+    default: spoil_size(in); break;
+    }
+}
+
+static void any_bytes(struct job_input *in)
+{
+    in->length = in->fields = 0;
+    pad_to(in, below(40));
+}
+
+static void lend_places(struct job_input *in, uint64_t too_short)
+{
+    in->images_places = some_places(WINDOWFLOOR_JOB_IMAGES, too_short);
+    in->working_places = some_places(WINDOWFLOOR_JOB_WORKING, too_short);
+    in->list_places = some_places(WINDOWFLOOR_JOB_LIST, too_short);
+}
+
+void random_job(struct job_input *in)
+{
+    unsigned kind = 1 + (unsigned)below(2);
+    uint64_t present = below(2) ? legal_capacity() : 1 + below(40);
+    size_t n = random_count();
+    put_head(in, kind, present, n);
+    put_sizes(in, kind, present, n);
+    for (size_t steps = random_steps(); steps > 0; steps--)
+        present = put_random_step(in, present);
+    if (one_in(5))
+        for (uint64_t times = 1 + below(3); times > 0; times--)
+            damage_values(in);
+    if (one_in(5))
+        damage_fields(in);
+    if (one_in(100))
+        any_bytes(in);
+    lend_places(in, 100);
+}
+
+/* Entries that never pass their size fit every list into the capacity. */
+static void put_largest_table(struct job_input *in)
+{
+    uint32_t entries[2048];
+    for (uint32_t x = 0; x < 2048; x++)
+        entries[x] = x - (uint32_t)below(x / 16 + 1);
+    entries[2047] = 2047;
+    put_table(in, entries, 2048);
+}
+
+void largest_job(struct job_input *in, size_t bytes)
+{
+    size_t tables = 7, n = (bytes - 14 - tables * (3 + 8192)) / 4;
+    put_head(in, 1, 2047, n);
+    put_sizes(in, 1, 2047, n);
+    while (tables-- > 0)
+        put_largest_table(in);
+    pad_to(in, bytes);
+    lend_places(in, 1000000);
+}
+
+void longest_chain(struct job_input *in)
+{
+    static const struct family_step steps[] = {{1, 100000, 0}, {5, 700, 0}, {2, 3, 0}, {3, 1000, 0},
+                                               {4, 100, 0},    {2, 50, 0},  {6, 7, 3}, {7, 5, 2}};
+    put_head(in, 1, 1000000, 2048);
+    put_sizes(in, 1, 1000000, 2048);
+    for (size_t i = 0; i < sizeof steps / sizeof *steps; i++)
+        put_family(in, steps[i]);
+    lend_places(in, 1000000);
+}
+
+/* Sweeps */
+
+static void random_range(struct sweep_input *in)
+{
+    uint64_t count = parameters(in->capacity, in->family);
+    in->low = ends_below(count);
+    if (one_in(4))
+        in->low = 0;
+    if (one_in(12))
+        in->low = one_in(2) ? LIMIT - below(70) : count + below(3);
+    if (one_in(40))
+        in->low = TWO_TO_32 + below(3);
+    if (one_in(40))
+        in->low = ~(uint64_t)0 - 4095;
+    in->high = in->low + below(one_in(4) ? 60 : 6);
+    if (one_in(40))
+        in->high = in->low + 4095 + below(2);
+    if (one_in(40))
+        in->high = one_in(2) ? in->low - 1 : below(in->low + 1);
+}
+
+static void put_sweep_sizes(struct sweep_input *in, size_t n)
+{
+    in->n = n;
+    for (size_t i = 0; i < n; i++)
+        in->sizes[i] = (uint32_t)random_size(in->capacity, 1);
+}
+
+void random_sweep(struct sweep_input *in)
+{
+    in->capacity = legal_capacity();
+    in->family = (uint8_t)(1 + below(5));
+    random_range(in);
+    put_sweep_sizes(in, one_in(300) ? 2047 + below(3) : below(16));
+    if (in->n > 0 && one_in(20))
+        in->sizes[below(in->n)] = (uint32_t)(one_in(2) ? 0 : in->capacity + 1 + below(LIMIT));
+    if (one_in(25))
+        in->family = (uint8_t)(one_in(2) ? 0 : 6 + below(250));
+    if (one_in(25))
+        in->capacity = illegal_capacity();
+}
+
+void largest_sweep(struct sweep_input *in, uint8_t family)
+{
+    in->capacity = 100000;
+    in->family = family;
+    in->low = 1;
+    in->high = 4096;
+    put_sweep_sizes(in, 2048);
+}

@@ -1,0 +1,51 @@
+/* Random inputs of the four operations: valid, at the limits, and damaged. */
+#ifndef INPUTS_H
+#define INPUTS_H
+
+#include "windowfloor.h"
+
+enum {
+    ROOM_ENTRIES = WINDOWFLOOR_MOST_ENTRIES + 32,
+    ROOM_SIZES = WINDOWFLOOR_MOST_SIZES + 32,
+    ROOM_BYTES = 2 * 65536,
+    ROOM_FIELDS = 16
+};
+
+struct image_input {
+    uint64_t capacity, p, q, x;
+    uint8_t family;
+};
+
+struct table_input {
+    uint32_t entries[ROOM_ENTRIES];
+    size_t count, working_places, list_places;
+};
+
+struct job_input {
+    uint8_t bytes[ROOM_BYTES];
+    size_t length, images_places, working_places, list_places;
+    size_t field_at[ROOM_FIELDS], fields; /* where each field starts, before any damage */
+};
+
+struct sweep_input {
+    uint64_t capacity, low, high;
+    uint8_t family;
+    uint32_t sizes[ROOM_SIZES];
+    size_t n;
+};
+
+void seed_inputs(uint64_t seed);
+uint64_t any_number(void);
+uint64_t below(uint64_t n); /* 0 to n - 1 */
+
+void random_image(struct image_input *in);
+void random_table(struct table_input *in);
+void random_job(struct job_input *in);
+void random_sweep(struct sweep_input *in);
+
+/* Inputs as large as they get. */
+void largest_job(struct job_input *in, size_t bytes); /* seven tables of 2,048 entries */
+void longest_chain(struct job_input *in);             /* 2,048 sizes, eight family steps */
+void largest_sweep(struct sweep_input *in, uint8_t family);
+
+#endif

@@ -1,0 +1,27 @@
+/* The four operations once more, written from the scope document alone and with no thought of speed,
+ * to be compared with the library. */
+#ifndef REFERENCE_H
+#define REFERENCE_H
+
+#include "windowfloor.h"
+
+struct windowfloor_image_answer reference_image(uint64_t capacity, uint8_t family, uint64_t p,
+                                                uint64_t q, uint64_t x);
+
+struct windowfloor_table_answer reference_table_check(const uint32_t *table, size_t entries,
+                                                      uint64_t *working, size_t working_places,
+                                                      uint32_t *list, size_t list_places);
+
+struct windowfloor_job_answer reference_job(const uint8_t *job, size_t bytes,
+                                            uint32_t *images, size_t images_places,
+                                            uint64_t *working, size_t working_places,
+                                            uint32_t *list, size_t list_places);
+
+struct windowfloor_sweep_answer reference_sweep(uint64_t capacity, uint8_t family,
+                                                const uint32_t *sizes, size_t n,
+                                                uint64_t low, uint64_t high);
+
+/* best(0) to best(capacity) of a table. */
+void reference_bests(const uint32_t *table, size_t capacity, uint64_t *best);
+
+#endif
