@@ -33,18 +33,22 @@ fn lesser_part(capacity: u64, x: u64) -> u64
     lesser(x, excess(capacity, x))
 }
 
+// Half of the mirror's value at x, but for the middle.
+fn side(capacity: u64, top: u64, part: u64, x: u64) -> u64
+    requires { ⌜ (x < 2 ^ 32) × (part ≤ top) ⌝ }
+    ensures { λ r. ⌜ (r ≤ top) × ((2 * x < capacity → r ≡ part) × (capacity ≤ 2 * x → r ≡ top - part)) ⌝ }
+{
+    if 2 * x < capacity { part } else { top - part }
+}
+
 // The mirror of a function at x, from its values: top at the capacity, and part at the lesser part.
+// Both tests choose between numbers that are there, so that the compiler needs no branch.
 fn mirrored(capacity: u64, top: u64, part: u64, x: u64) -> u64
     requires { ⌜ (x < 2 ^ 32) × (part ≤ top) × (2 * top < 2 ^ 64) ⌝ }
     ensures { λ r. ⌜ ((g : ℕ → ℕ) → g capacity ≡ top → g (min x (capacity - x)) ≡ part → r ≡ mirror capacity g x) ⌝ }
 {
-    if 2 * x < capacity {
-        2 * part
-    } else if 2 * x == capacity {
-        top
-    } else {
-        2 * top - 2 * part
-    }
+    let half = side(capacity, top, part, x);
+    if 2 * x == capacity { top } else { 2 * half }
 }
 
 // Family 1.
@@ -79,13 +83,13 @@ pub(crate) fn mirrored_quotient(capacity: u64, p: u64, top: u64, x: u64) -> u64
     mirrored(capacity, top, lesser_part(capacity, x) / p, x)
 }
 
-// Family 4.
+// Family 4. A quotient rounded up, less 1, is that of the number before, rounded down.
 pub(crate) fn mirrored_vanderbeck(capacity: u64, p: u64, x: u64) -> u64
     requires { ⌜ (x < 2 ^ 32) × (0 < capacity) × (capacity ≤ limit) × (1 ≤ p) × (p ≤ limit) ⌝ }
     ensures { λ r. ⌜ r ≡ mirror capacity (vanderbeck capacity p) x ⌝ }
 {
     let y = lesser_part(capacity, x);
-    let part = round_up(p * y, capacity) - lesser(y, 1);
+    let part = (p * y - lesser(y, 1)) / capacity;
     mirrored(capacity, p - 1, part, x)
 }
 

@@ -93,14 +93,7 @@ fn image_of(capacity: u64, family: u8, p: u64, q: u64, x: u64) -> u64
     }
 }
 
-#[no_mangle]
-pub extern "C" fn windowfloor_image(
-    capacity: u64,
-    family: u8,
-    p: u64,
-    q: u64,
-    x: u64,
-) -> ImageAnswer
+fn answer_for(capacity: u64, family: u8, p: u64, q: u64, x: u64) -> ImageAnswer
     ensures { λ r. ⌜ r ≡ imageAnswer capacity family p q x ⌝ }
 {
     let judged = judge_family(capacity, family, p, q);
@@ -122,6 +115,29 @@ pub extern "C" fn windowfloor_image(
         number: 0,
         image: image_of(capacity, family, p, q, x),
         scale: judged.scale,
+    }
+}
+
+// The family is chosen once: in each arm it is a constant, and what depends on it is folded.
+#[no_mangle]
+pub extern "C" fn windowfloor_image(
+    capacity: u64,
+    family: u8,
+    p: u64,
+    q: u64,
+    x: u64,
+) -> ImageAnswer
+    ensures { λ r. ⌜ r ≡ imageAnswer capacity family p q x ⌝ }
+{
+    match family {
+        1 => answer_for(capacity, 1, p, q, x),
+        2 => answer_for(capacity, 2, p, q, x),
+        3 => answer_for(capacity, 3, p, q, x),
+        4 => answer_for(capacity, 4, p, q, x),
+        5 => answer_for(capacity, 5, p, q, x),
+        6 => answer_for(capacity, 6, p, q, x),
+        7 => answer_for(capacity, 7, p, q, x),
+        _ => answer_for(capacity, family, p, q, x),
     }
 }
 

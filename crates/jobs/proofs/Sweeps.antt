@@ -138,7 +138,7 @@ pub passing-next : (c family low i : ℕ) → passing c family low (i + 1) ≡ p
 unfolding passing
 passing-next c family low i = rw add-one
 
--- the largest floor is one of a p that passes
+-- what bounds the floor of each p that passes bounds the largest
 largest-most : (f : ℕ → ℕ) (k c family low : ℕ) → ((p : ℕ) → passes c family p ≡ true → f p ≤ k) → (n : ℕ) → largest (map f (passing c family low n)) ≤ k
 unfolding passing largest
 largest-most f k c family low safe zero = zero-le

@@ -1,7 +1,7 @@
 // The greatest totals, best 0 to best C, in the working buffer.
 ghost use mathlib.Core.Path.{_≡_};
 ghost use mathlib.Core.List.{_++_, reverse};
-ghost use Prim.Native.Nat.{ℕ, _≤_, _<_, max};
+ghost use Prim.Native.Nat.{ℕ, _+_, _-_, _≤_, _<_, max};
 ghost use lib.ListN.{length, getD, drop};
 ghost use Rattle.tables.specs.Table.{best, bests, tableCapacity};
 ghost use Rattle.tables.specs.Check.{formRefusal};
@@ -12,18 +12,32 @@ fn greater(a: u64, b: u64) -> u64
     if a < b { b } else { a }
 }
 
+// Two lists, of which one fits y and the other c - y. The table is there for the contract.
+fn sum_at(table: &[u32], working: &[u64], c: usize, y: usize) -> u64
+    requires { ⌜ (1 ≤ y) × (y < c) × (c < length (now table)) × (c ≤ length (now working)) × (formRefusal (now table) ≡ 0) × (length (now table) ≤ 2048) × ((j : ℕ) → j < c → getD (now working) j 0 ≡ best (now table) j) ⌝ }
+    ensures { λ r. ⌜ r ≡ best (now (table .entry)) y + best (now (table .entry)) (c - y) ⌝ }
+{
+    working[y] + working[c - y]
+}
+
 // best c, from the bests below c: the entry of c, or two lists that fit y and c - y. One of the two
-// is at most half of c.
+// is at most half of c. Two sums in each turn keep the processor busier than one.
 fn best_at(table: &[u32], working: &[u64], c: usize) -> u64
     requires { ⌜ (1 ≤ c) × (c < length (now table)) × (c ≤ length (now working)) × (formRefusal (now table) ≡ 0) × (length (now table) ≤ 2048) × ((j : ℕ) → j < c → getD (now working) j 0 ≡ best (now table) j) ⌝ }
     ensures { λ r. ⌜ r ≡ best (now (table .entry)) c ⌝ }
 {
-    let half = c / 2;
     let mut most = table[c] as u64;
     let mut y = 1;
-    while y <= half {
-        most = greater(most, working[y] + working[c - y]);
-        y += 1;
+    while y + 2 <= c - y {
+        let pair = greater(
+            sum_at(table, working, c, y),
+            sum_at(table, working, c, y + 1),
+        );
+        most = greater(most, pair);
+        y += 2;
+    }
+    if y <= c - y {
+        return greater(most, sum_at(table, working, c, y));
     }
     most
 }
