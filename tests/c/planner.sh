@@ -1,5 +1,6 @@
 #!/usr/bin/env bash
-# Runs the example on a few lists and holds what it prints to planner.out beside this file.
+# Runs the example on a few lists and holds what it prints to planner.out beside this file, which is
+# compared with the independent implementation by tests/reference/planner_cases.py.
 #
 #     planner.sh PROGRAM            compare
 #     planner.sh PROGRAM --print    print, to be read and stored

@@ -25,7 +25,8 @@ use Rattle.tables.proofs.Outcome.{neither}
 use Rattle.jobs.specs.Chain.{onFamily, stepImage, stepScale, stepRefusal, chainImage, chainScale, ChainAccepted, chainFloor}
 use Rattle.jobs.specs.Packing.{Fits, binsUsed}
 use Rattle.jobs.specs.Sizes.{sizesWithin}
-use Rattle.jobs.specs.Sweep.{mostSizes, widest, sweepRefusal, sweepFloor, passes, passing, largest, firstWith, refusedSweep, bestOf, sweepAnswer}
+use Rattle.jobs.specs.Fields.{mostSizes}
+use Rattle.jobs.specs.Sweep.{widest, sweepRefusal, sweepFloor, passes, passing, largest, firstWith, refusedSweep, bestOf, sweepAnswer}
 use Rattle.jobs.specs.declared.SweepAnswer.{SweepAnswer}
 use Rattle.jobs.proofs.Packings.{chain-is-safe}
 use Rattle.jobs.proofs.SizeTests.{sizes-most}

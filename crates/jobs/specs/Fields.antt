@@ -4,7 +4,18 @@ use mathlib.Core.List.{List, [], _∷_, map}
 use Prim.Native.Nat.{ℕ, zero, suc, _+_, _*_, _/_, _%_}
 use lib.Dec.{leb, ltb, eqb}
 use lib.ListN.{length, getD, take, drop}
+use Rattle.tables.specs.Check.{mostEntries}
 use Rattle.jobs.specs.Chain.{Step, onFamily, onTable}
+
+-- the most bytes, sizes and steps of a job
+abbrev pub mostBytes : ℕ
+mostBytes = 65_535
+
+abbrev pub mostSizes : ℕ
+mostSizes = 2_048
+
+abbrev pub mostSteps : ℕ
+mostSteps = 8
 
 -- the four-byte number at a place of a list of bytes
 unfoldable pub word : List ℕ → ℕ → ℕ
@@ -35,18 +46,18 @@ fieldValue rest = cond (fieldWithin rest) (take (fieldLength rest) (drop 3 rest)
 unfoldable pub fieldRest : List ℕ → List ℕ
 fieldRest rest = cond (fieldWithin rest) (drop (3 + fieldLength rest) rest) []
 
--- the tag that may stand at a place of the job: 1, 2, 3, and then up to eight steps
+-- the tag that may stand at a place of the job: 1, 2, 3, and then steps
 unfoldable pub tagInPlace : ℕ → ℕ → Bool
-tagInPlace place tag = cond (ltb place 3) (eqb tag (place + 1)) (ltb place 11 && (eqb tag 4 || eqb tag 5))
+tagInPlace place tag = cond (ltb place 3) (eqb tag (place + 1)) (ltb place (3 + mostSteps) && (eqb tag 4 || eqb tag 5))
 
 -- the lengths that a tag may have
 unfoldable pub lengthRight : ℕ → ℕ → Bool
 lengthRight tag n =
     cond (eqb tag 1) (eqb n 1)
     (cond (eqb tag 2) (eqb n 4)
-    (cond (eqb tag 3) (eqb (n % 4) 0 && leb n 8192)
+    (cond (eqb tag 3) (eqb (n % 4) 0 && leb n (4 * mostSizes))
     (cond (eqb tag 4) (eqb n 9)
-    (leb 8 n && leb n 8192 && eqb (n % 4) 0))))
+    (leb 8 n && leb n (4 * mostEntries) && eqb (n % 4) 0))))
 
 pub record Field : Type 0 where
   pub tag : ℕ

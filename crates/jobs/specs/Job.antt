@@ -2,13 +2,14 @@
 use mathlib.Core.Bool.{cond, _||_}
 use mathlib.Core.Path.{_≡_}
 use mathlib.Core.List.{List, [], _++_, map}
-use Prim.Native.Nat.{ℕ, _≤_}
+use Prim.Native.Nat.{ℕ, _-_, _≤_}
 use lib.Dec.{ltb, eqb}
 use lib.ListN.{length, take, drop}
 use Rattle.functions.specs.Words.{total}
 use Rattle.jobs.specs.Chain.{chainImage, chainScale, chainFloor}
 use Rattle.jobs.specs.Packing.{Fits, binsUsed, weighted}
-use Rattle.jobs.specs.Fields.{Field, Fields, refused, complete, jobFields, jobKind, jobCapacity, jobSizes, jobSteps}
+use Rattle.tables.specs.Check.{mostEntries}
+use Rattle.jobs.specs.Fields.{mostBytes, mostSizes, Field, Fields, refused, complete, jobFields, jobKind, jobCapacity, jobSizes, jobSteps}
 use Rattle.jobs.specs.Sizes.{listRefusal}
 use Rattle.jobs.specs.Judge.{Refusal, judgeChain}
 use Rattle.jobs.specs.declared.JobAnswer.{JobAnswer}
@@ -36,8 +37,8 @@ fieldsOf (complete fields) = fields
 -- refusals 12 and 7, by the bytes of the job and the places of the image, working and list buffers
 unfoldable pub bufferRefusal : ℕ → ℕ → ℕ → ℕ → ℕ
 bufferRefusal bytes images working list =
-    cond (ltb 65535 bytes) 12
-    (cond (ltb images 2048 || ltb working 2048 || ltb list 2047) 7 0)
+    cond (ltb mostBytes bytes) 12
+    (cond (ltb images mostSizes || ltb working mostEntries || ltb list (mostEntries - 1)) 7 0)
 
 unfoldable pub judgeJob : List ℕ → ℕ → ℕ → ℕ → Refusal
 judgeJob job images working list =

@@ -6,13 +6,11 @@ use lib.Dec.{leb, ltb, eqb}
 use lib.ListN.{length}
 use Rattle.functions.specs.Words.{capacityFits}
 use Rattle.jobs.specs.Chain.{onFamily, stepRefusal, chainFloor}
+use Rattle.jobs.specs.Fields.{mostSizes}
 use Rattle.jobs.specs.Sizes.{sizesWithin}
 use Rattle.jobs.specs.declared.SweepAnswer.{SweepAnswer}
 
--- the most sizes, and the most that high is above low
-abbrev pub mostSizes : ℕ
-mostSizes = 2_048
-
+-- the most that high is above low
 abbrev pub widest : ℕ
 widest = 4_095
 

@@ -1,6 +1,9 @@
 // A job that was read: judged, and only then applied.
 use crate::JobAnswer;
 use crate::JobRead;
+use crate::LIST_PLACES;
+use crate::MOST_BYTES;
+use crate::MOST_SIZES;
 use crate::apply;
 use crate::field;
 use crate::list;
@@ -108,16 +111,16 @@ pub(crate) fn refused(number: u64, step: u64, length: u64) -> JobAnswer
 pub(crate) fn refuse_buffers(bytes: usize, images: usize, working: usize, list: usize) -> u64
     ensures { λ r. ⌜ r ≡ bufferRefusal bytes images working list ⌝ }
 {
-    if 65_535 < bytes {
+    if MOST_BYTES < bytes {
         return 12;
     }
-    if images < 2_048 {
+    if images < MOST_SIZES {
         return 7;
     }
-    if working < 2_048 {
+    if working < tables::MOST_ENTRIES {
         return 7;
     }
-    if list < 2_047 {
+    if list < LIST_PLACES {
         return 7;
     }
     0

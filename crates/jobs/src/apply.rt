@@ -38,7 +38,7 @@ fn apply_table(value: &[u8], capacity: u64, images: &mut [u32]) -> u64
     ensures { λ r. ⌜ (r ≡ stepScale capacity (onTable (words (now (value .entry))))) × (now (images .exit) ≡ map (stepImage capacity (onTable (words (now (value .entry))))) (now (images .entry))) ⌝ }
 {
     let n = value.len() / 4;
-    let mut table = [0u32; 2048];
+    let mut table = [0u32; tables::MOST_ENTRIES];
     apply_table_in(value, &mut table[..n], capacity, images)
 }
 

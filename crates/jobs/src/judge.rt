@@ -77,7 +77,7 @@ fn judge_table_step(
     ensures { λ r. ⌜ (r ≡ stepAnswer capacity (onTable (words (now (value .entry))))) × (now (list .exit) ≡ stepList (r .number) (onTable (words (now (value .entry)))) ++ drop (r .length) (now (list .entry))) ⌝ }
 {
     let n = value.len() / 4;
-    let mut table = [0u32; 2048];
+    let mut table = [0u32; tables::MOST_ENTRIES];
     judge_table_in(value, &mut table[..n], capacity, working, list)
 }
 

@@ -18,6 +18,16 @@ ghost use Rattle.jobs.specs.Judge.{entriesAt};
 ghost use Rattle.jobs.specs.Packing.{Fits, binsUsed};
 ghost use Rattle.jobs.specs.Sweep.{sweepAnswer};
 
+// The most bytes, sizes and steps of a job.
+const MOST_BYTES: usize = 65_535;
+
+pub const MOST_SIZES: usize = 2_048;
+
+const MOST_STEPS: usize = 8;
+
+// The least places of a list buffer: a counterexample has at most as many sizes as its table's capacity.
+pub const LIST_PLACES: usize = tables::MOST_ENTRIES - 1;
+
 // A step of a job: its tag, and the place of its field in the job.
 pub struct JobStep {
     pub tag: u8,
@@ -26,7 +36,7 @@ pub struct JobStep {
 
 // The steps of one job: eight places and their number.
 pub struct JobSteps {
-    pub items: [JobStep; 8],
+    pub items: [JobStep; MOST_STEPS],
     pub count: usize,
 }
 
@@ -82,8 +92,8 @@ pub struct SweepAnswer {
     pub p: u64,
 }
 
-// The job operation: a job is judged whole before any image is written. `images` and `working` have
-// 2,048 places, `list` has 2,047.
+// The job operation: a job is judged whole before any image is written. `images` has at least
+// MOST_SIZES places, `working` as many as the longest table, and `list` one less.
 #[no_mangle]
 pub extern "C" fn windowfloor_job(
     job: &[u8],

@@ -2,6 +2,8 @@
 use crate::JobRead;
 use crate::JobStep;
 use crate::JobSteps;
+use crate::MOST_SIZES;
+use crate::MOST_STEPS;
 use crate::StepsRead;
 use crate::field;
 ghost use mathlib.Core.Path.{_≡_};
@@ -13,6 +15,14 @@ ghost use lib.ListN.{length, getD, take, drop};
 ghost use Rattle.jobs.specs.Fields.{tagInPlace, lengthRight, fieldRefusal, readRest, jobFields};
 ghost use Rattle.jobs.specs.Record.{readingOf, StepsWithin, headRefusal, jobReading, ReadWithin};
 
+// The fields of a job: tags 1, 2 and 3, and the steps.
+const PLACES: usize = 3 + MOST_STEPS;
+
+// The bytes of the longest list of sizes and of the longest table.
+const MOST_LIST_BYTES: usize = 4 * MOST_SIZES;
+
+const MOST_TABLE_BYTES: usize = 4 * tables::MOST_ENTRIES;
+
 fn tag_in_place(place: usize, tag: u8) -> bool
     requires { ⌜ place ≤ 11 ⌝ }
     ensures { λ r. ⌜ r ≡ tagInPlace place tag ⌝ }
@@ -20,7 +30,7 @@ fn tag_in_place(place: usize, tag: u8) -> bool
     if place < 3 {
         return tag as usize == place + 1;
     }
-    if 11 <= place {
+    if PLACES <= place {
         return false;
     }
     if tag == 4 {
@@ -36,7 +46,7 @@ fn table_length_right(n: usize) -> bool
     if n < 8 {
         return false;
     }
-    if 8_192 < n {
+    if MOST_TABLE_BYTES < n {
         return false;
     }
     n % 4 == 0
@@ -48,7 +58,7 @@ fn length_right(tag: u8, n: usize) -> bool
     match tag {
         1 => n == 1,
         2 => n == 4,
-        3 => n % 4 == 0 && n <= 8_192,
+        3 => n % 4 == 0 && n <= MOST_LIST_BYTES,
         4 => n == 9,
         _ => table_length_right(n),
     }
@@ -89,7 +99,7 @@ fn no_steps() -> JobSteps
 {
     let none = JobStep { tag: 0, at: 0 };
     JobSteps {
-        items: [none; 8],
+        items: [none; MOST_STEPS],
         count: 0,
     }
 }
@@ -111,7 +121,7 @@ pub(crate) fn read_steps(job: &[u8], from: usize) -> StepsRead
     ensures within { λ r. ⌜ StepsWithin (now (job .entry)) (r .steps) ⌝ }
 {
     let none = JobStep { tag: 0, at: 0 };
-    let mut items = [none; 8];
+    let mut items = [none; MOST_STEPS];
     let mut count = 0;
     let mut at = from;
     while at < job.len() {

@@ -1,4 +1,5 @@
 // The sweep over a range of p: the largest one-step lower bound on bins, and the least p that gives it.
+use crate::MOST_SIZES;
 use crate::SweepAnswer;
 ghost use mathlib.Core.Path.{_≡_};
 ghost use mathlib.Core.Bool.{true, cond};
@@ -6,10 +7,8 @@ ghost use mathlib.Core.List.{List, [], _∷_, _++_};
 ghost use Prim.Native.Nat.{ℕ, suc, _-_, _≤_};
 ghost use lib.ListN.{length};
 ghost use Rattle.jobs.specs.Sizes.{sizesWithin};
-ghost use Rattle.jobs.specs.Sweep.{mostSizes, widest, sweepRefusal, sweepFloor, passes, passing, bestOf, refusedSweep};
-
-// The most sizes.
-const MOST_SIZES: usize = 2_048;
+ghost use Rattle.jobs.specs.Fields.{mostSizes};
+ghost use Rattle.jobs.specs.Sweep.{widest, sweepRefusal, sweepFloor, passes, passing, bestOf, refusedSweep};
 
 // The most that high is above low.
 const WIDEST: u64 = 4_095;

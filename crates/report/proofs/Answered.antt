@@ -12,7 +12,7 @@ use Rattle.jobs.specs.Fields.{jobFields, jobKind, jobSizes}
 use Rattle.jobs.specs.Job.{judgeJob, jobAnswer, acceptedAnswer, refusedAnswer, fieldsOf, jobImages, imagesAfter, listAfterJob}
 use Rattle.jobs.specs.declared.JobAnswer.{JobAnswer}
 use Rattle.jobs.proofs.Accepted.{KindRead, accepted-kind}
-use Rattle.report.specs.Text.{acceptedText, refusedText, judgedText, fieldsText, handOverText}
+use Rattle.report.specs.Text.{acceptedText, refusedText, judgedText, fieldsText, handedOver, handOverText}
 
 -- the first places of a list that is longer
 first-part : (a b : List ℕ) (n : ℕ) → n ≡ length a → (n ≤ length (a ++ b)) × (take n (a ++ b) ≡ a)
@@ -41,7 +41,7 @@ module _ (job images₀ working₀ list₀ : List ℕ) (full : (length images₀
       (eq-zero-or-pos (judgeJob job 2048 2048 2047 .number))
 
   pub refused-so : (list : List ℕ) → list ≡ listAfterJob job (length images₀) (length working₀) list₀ → (answer .number ≡ 0 → ⊥) → Refused job answer list
-  unfolding jobAnswer refusedAnswer listAfterJob handOverText judgedText
+  unfolding jobAnswer refusedAnswer listAfterJob handOverText handedOver judgedText
   refused-so list e some =
       let told = ne-eqb (judgeJob job 2048 2048 2047 .number) 0 (λ none. some (number-is ∙ none)) in
       let same : answer ≡ refusedAnswer (judgeJob job 2048 2048 2047) = is ∙ rw told refl in
@@ -53,7 +53,7 @@ module _ (job images₀ working₀ list₀ : List ℕ) (full : (length images₀
       }
 
   pub accepted-so : (images : List ℕ) → images ≡ imagesAfter job images₀ (length working₀) (length list₀) → answer .number ≡ 0 → Accepted job answer images
-  unfolding jobAnswer acceptedAnswer imagesAfter handOverText fieldsText jobImages
+  unfolding jobAnswer acceptedAnswer imagesAfter handOverText handedOver fieldsText jobImages
   accepted-so images e none =
       let fine : judgeJob job 2048 2048 2047 .number ≡ 0 = sym number-is ∙ none in
       let passed = eq-eqb (judgeJob job 2048 2048 2047 .number) 0 fine in

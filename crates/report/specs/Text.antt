@@ -1,9 +1,10 @@
 -- What the hand-over program prints for a job, document 01, "The hand-over program", in ASCII.
 use mathlib.Core.Bool.{cond}
 use mathlib.Core.List.{List, [], _∷_, _++_}
-use Prim.Native.Nat.{ℕ, zero, suc, _+_, _/_, _%_}
+use Prim.Native.Nat.{ℕ, zero, suc, _+_, _-_, _/_, _%_}
 use lib.Dec.{ltb, eqb}
-use Rattle.jobs.specs.Fields.{Field, jobFields, jobKind}
+use Rattle.tables.specs.Check.{mostEntries}
+use Rattle.jobs.specs.Fields.{mostSizes, Field, jobFields, jobKind}
 use Rattle.jobs.specs.Judge.{Refusal}
 use Rattle.jobs.specs.Job.{fieldsOf, judgeJob, jobImages, acceptedAnswer}
 use Rattle.jobs.specs.declared.JobAnswer.{JobAnswer}
@@ -66,9 +67,13 @@ fieldsText fields = acceptedText (jobKind fields) (acceptedAnswer fields) (jobIm
 abbrev pub mostText : ℕ
 mostText = 22_700
 
--- all that is printed for a job: image and working buffer have 2,048 places, the list buffer 2,047
+-- what refuses a job, with lent buffers of the least lengths that 7 lets pass
+unfoldable pub handedOver : List ℕ → Refusal
+handedOver job = judgeJob job mostSizes mostEntries (mostEntries - 1)
+
+-- all that is printed for a job
 unfoldable pub handOverText : List ℕ → List ℕ
 handOverText job =
-    cond (eqb (judgeJob job 2048 2048 2047 .number) 0)
+    cond (eqb (handedOver job .number) 0)
     (fieldsText (fieldsOf (jobFields job)))
-    (judgedText (judgeJob job 2048 2048 2047))
+    (judgedText (handedOver job))

@@ -35,8 +35,8 @@ pub fn hand_over(job: &[u8], out: &mut [u8]) -> usize
     ensures text { λ r. ⌜ now (out .exit) ≡ take r (handOverText (now (job .entry))) ++ drop r (now (out .entry)) ⌝ }
     ensures short { λ r. ⌜ length (handOverText (now (job .entry))) ≤ mostText ⌝ }
 {
-    let mut images = [0u32; 2048];
-    let mut working = [0u64; 2048];
-    let mut list = [0u32; 2047];
+    let mut images = [0u32; jobs::MOST_SIZES];
+    let mut working = [0u64; tables::MOST_ENTRIES];
+    let mut list = [0u32; jobs::LIST_PLACES];
     answer_text(job, &mut images, &mut working, &mut list, out)
 }

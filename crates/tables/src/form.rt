@@ -1,11 +1,9 @@
 // The refusals 6 to 10 of the table check.
+use crate::MOST_ENTRIES;
 ghost use mathlib.Core.Path.{_≡_};
 ghost use Prim.Native.Nat.{_≤_};
 ghost use lib.ListN.{length};
 ghost use Rattle.tables.specs.Check.{withinLimit, formRefusal, lengthRefusal};
-
-// The most entries of a table.
-const MOST_ENTRIES: usize = 2_048;
 
 fn within_limit(table: &[u32]) -> bool
     ensures { λ r. ⌜ r ≡ withinLimit (now (table .entry)) ⌝ }

@@ -10,6 +10,9 @@ ghost use Rattle.tables.specs.Table.{entry};
 ghost use Rattle.tables.specs.Check.{tableAnswer, workingAfter, listAfter};
 ghost use Rattle.tables.specs.Promise.{Overshoots};
 
+// The most entries of a table.
+pub const MOST_ENTRIES: usize = 2_048;
+
 // The answer to a table check: the number that refuses it, or 0; at 11 the counterexample's length.
 #[repr(C)]
 pub struct TableAnswer {

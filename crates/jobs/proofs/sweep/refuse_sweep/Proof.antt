@@ -7,7 +7,8 @@ use lib.Dec.{leb, ltb}
 use lib.ListN.{length}
 use Rattle.functions.specs.Words.{capacityFits}
 use Rattle.jobs.specs.Sizes.{sizesWithin}
-use Rattle.jobs.specs.Sweep.{mostSizes, widest, sweepRefusal}
+use Rattle.jobs.specs.Fields.{mostSizes}
+use Rattle.jobs.specs.Sweep.{widest, sweepRefusal}
 use Rattle.jobs.proofs.sweep.refuse_sweep.Statement.{statement}
 use Rattle.jobs.proofs.sweep.refuse_sweep.Tie as tie
 
