@@ -1,34 +1,59 @@
 # The library for C, its example, tests and benchmarks. All output goes under target/.
 #
-#     make         target/libwindowfloor.a and the example, target/planner
-#     make test    the header as C and C++, the library against a C reference, the example
-#     make bench   the library against plain and tuned C
-#     make clean   removes target/
+#     make            target/libwindowfloor.a and the example, target/planner
+#     make test       the header as C and C++, the library against a C reference, the example
+#     make program    the hand-over program against the independent implementation
+#     make releases   the library and the program against the answers of earlier releases
+#     make outside    these and the tests of the independent implementation: all but `rt ci`
+#     make bench      the library against plain and tuned C
+#     make clean      removes target/
+#
+# With -j2 the proofs, the archives and the tests go on two at a time.
 
 CC = gcc
 CXX = g++
 WARNINGS = -Wall -Wextra -Wpedantic -Werror
 CFLAGS = -std=c99 -O2 -g $(WARNINGS) -Iinclude
 LIBRARY = target/libwindowfloor.a
-CRATES = functions tables jobs
-ARCHIVES = $(CRATES:%=target/staticlib/lib%.a)
-SOURCES := crates.txt $(shell find $(CRATES:%=crates/%) -name '*.rt' -o -name '*.antt')
+# The crates with functions for C. rt makes no archive of any other: what these reach in the crates
+# below is in their own.
+EXPORTING = functions tables jobs sweeps
+ARCHIVES = $(EXPORTING:%=target/staticlib/lib%.a)
 COMPARE = tests/c/compare.c tests/c/inputs.c tests/c/reference.c
 COMPILERS := gcc $(shell command -v clang >/dev/null && echo clang)
+sources = crates.txt $(shell find $(1:%=crates/%) -name '*.rt' -o -name '*.antt')
+
+.SECONDEXPANSION:
+.DELETE_ON_ERROR:
 
 all: $(LIBRARY) target/planner
 
-# `rt staticlib` proves a crate before it writes its archive; two at a time would prove the same crates.
-.NOTPARALLEL:
+# A crate with functions for C is proved twice: for the crates above it by `rt check`, and for its archive
+# by `rt staticlib`, which takes over no earlier proof of the crate itself. Both can go on at once,
+# each with one crate at a time; `rt staticlib` does so in a room with logs of its own, since rt names a log
+# by its crate. The room shares the crates and what `rt check` has proved of them.
 
-target/staticlib/lib%.a: $(SOURCES)
+target/proved-%.log: $$(call sources,$$*)
 	@mkdir -p target
-	rt staticlib $* >target/staticlib-$*.log 2>&1 || { cat target/staticlib-$*.log; exit 1; }
+	rt check $* >$@ 2>&1 || { cat $@; exit 1; }
 
-PROGRAM_SOURCES := $(shell find crates/report crates/windowfloor -name '*.rt' -o -name '*.antt')
+target/staticlib/lib%.a: $$(call sources,$$*) | target/room
+	cd target/room && rt staticlib $* >$*.log 2>&1 || { cat $*.log; exit 1; }
 
-target/bin/windowfloor: $(SOURCES) $(PROGRAM_SOURCES)
-	@mkdir -p target
+target/room:
+	mkdir -p target/rlib target/stamp target/staticlib $@/target
+	ln -s ../../crates.txt ../../crates $@
+	ln -s ../../rlib ../../stamp ../../staticlib $@/target
+
+# Each behind what it needs, and behind the one that goes before it.
+target/proved-tables.log: target/proved-functions.log
+target/proved-fields.log: target/proved-tables.log
+target/proved-jobs.log: target/proved-fields.log
+target/staticlib/libtables.a: target/proved-functions.log | target/staticlib/libfunctions.a
+target/staticlib/libjobs.a: target/proved-fields.log | target/staticlib/libtables.a
+target/staticlib/libsweeps.a: target/proved-jobs.log | target/staticlib/libjobs.a
+
+target/bin/windowfloor: $$(call sources,report windowfloor) target/proved-jobs.log
 	rt check windowfloor >target/windowfloor.log 2>&1 || { cat target/windowfloor.log; exit 1; }
 
 # Functions start at a cache line, so that their speed does not depend on what is linked before them.
@@ -58,6 +83,26 @@ test: header target/compare target/compare-sanitized target/planner
 	target/compare-sanitized 2 5000
 	tests/c/planner.sh target/planner
 
+target/releases-answers: tests/releases/answers.c include/windowfloor.h $(LIBRARY)
+	$(CC) $(CFLAGS) $< $(LIBRARY) $(LDLIBS) -o $@
+
+releases: target/releases-answers target/bin/windowfloor
+	python3 -B tests/releases/test_compare.py
+	python3 -B tests/releases/compare.py
+
+program: target/bin/windowfloor
+	python3 -B tests/reference/program_cases.py
+
+reference:
+	python3 -B -m unittest discover -s tests/reference
+	python3 -B tests/reference/image_cases.py --check
+	python3 -B tests/reference/table_cases.py --check
+	python3 -B tests/reference/job_cases.py --check
+	python3 -B tests/reference/sweep_cases.py --check
+	python3 -B tests/reference/planner_cases.py
+
+outside: target/bin/windowfloor test program releases reference
+
 # One program for each compiler: it prints a table of its own.
 bench: $(COMPILERS:%=target/bench-%)
 	@for program in $^; do $$program || exit 1; done
@@ -68,4 +113,4 @@ target/bench-%: $(wildcard bench/*.c bench/*.h) include/windowfloor.h $(LIBRARY)
 clean:
 	rm -rf target
 
-.PHONY: all header test bench clean
+.PHONY: all header test program releases reference outside bench clean

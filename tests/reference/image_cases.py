@@ -1,5 +1,5 @@
-"""Writes crates/cases/stdin (image cases: capacity family p q x) and
-crates/cases/stdout (their answers: number image scale). With --check it
+"""Writes crates/image_cases/stdin (image cases: capacity family p q x) and
+crates/image_cases/stdout (their answers: number image scale). With --check it
 writes nothing and fails if a stored file differs."""
 
 import random
@@ -139,7 +139,7 @@ def all_cases():
 
 def main():
     cases = all_cases()
-    return store_or_check("cases", lines(cases), lines(wf.image(*case) for case in cases))
+    return store_or_check("image_cases", lines(cases), lines(wf.image(*case) for case in cases))
 
 
 if __name__ == "__main__":

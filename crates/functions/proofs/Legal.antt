@@ -1,5 +1,5 @@
 -- What refusals 1 to 4 leave of a family step, as facts on numbers.
-use mathlib.Core.Path.{_≡_, sym, _∙_}
+use mathlib.Core.Path.{_≡_, refl, sym, _∙_}
 use mathlib.Core.Bool.{Bool, true, false, cond, not, _&&_, _||_, and-eq-true-iff, or-true}
 use mathlib.Core.Logic.{_⊎_, inl, inr, ⊎-elim}
 use Prim.Native.Nat.{ℕ, zero, suc, _+_, _-_, _*_, _%_, _≤_, _<_}
@@ -42,25 +42,33 @@ pub capacity-bounds : (c : ℕ) → capacityFits c ≡ true → (1 ≤ c) × (c 
 unfolding capacityFits
 capacity-bounds c e = both-le 1 c c limit e
 
+pub family-bounds : (family : ℕ) → isFamily family ≡ true → (1 ≤ family) × (family ≤ 7)
+unfolding isFamily
+family-bounds family e = both-le 1 family family 7 e
+
 pub record Accepted (c family p q : ℕ) : Type 0 where
+  pub capacity-fits : capacityFits c ≡ true
   pub capacity-positive : 1 ≤ c
   pub capacity-within-limit : c ≤ limit
+  pub is-family : isFamily family ≡ true
   pub family-least : 1 ≤ family
   pub family-most : family ≤ 7
   pub is-legal : legal c family p q ≡ true
   pub scale-within-limit : familyScale c family p q ≤ limit
 
 pub accepted : (c family p q : ℕ) → familyRefusal c family p q ≡ 0 → Accepted c family p q
-unfolding familyRefusal isFamily
+unfolding familyRefusal
 accepted c family p q e =
     let one = passed (capacityFits c) 1 _ (omega arith) e in
     let two = passed (isFamily family) 2 _ (omega arith) (one .1) in
     let three = passed (legal c family p q) 3 _ (omega arith) (two .1) in
     let capacity = capacity-bounds c (one .0) in
-    let byte = both-le 1 family family 7 (two .0) in
+    let byte = family-bounds family (two .0) in
     record {
+      capacity-fits = one .0;
       capacity-positive = capacity .0;
       capacity-within-limit = capacity .1;
+      is-family = two .0;
       family-least = byte .0;
       family-most = byte .1;
       is-legal = three .0;
@@ -126,16 +134,21 @@ module _ (c p q : ℕ) where
       let or = both (leb p limit && leb q limit) (ltb 5 family || eqb q 0) (three .0) .1 in
       eqb-true q 0 (rw (le-ltb 5 family l) at or)
 
-  pub limits : (family : ℕ) → familyRefusal c family p q ≡ 0 → Within c p q
-  limits family e =
-      let a = accepted c family p q e in
-      let parameter = parameters family (a .is-legal) in
+  pub within : (family : ℕ) → capacityFits c ≡ true → legal c family p q ≡ true → Within c p q
+  within family fits e =
+      let capacity = capacity-bounds c fits in
+      let parameter = parameters family e in
       record {
-        capacity-positive = a .capacity-positive;
-        capacity-within-limit = a .capacity-within-limit;
+        capacity-positive = capacity .0;
+        capacity-within-limit = capacity .1;
         p-within-limit = parameter .0;
         q-within-limit = parameter .1;
       }
+
+  pub limits : (family : ℕ) → familyRefusal c family p q ≡ 0 → Within c p q
+  limits family e =
+      let a = accepted c family p q e in
+      within family (a .capacity-fits) (a .is-legal)
 
   pub legal-of : (family : ℕ) → familyRefusal c family p q ≡ 0 → legal c family p q ≡ true
   legal-of family e = accepted c family p q e .is-legal
@@ -187,6 +200,20 @@ module _ (c p q : ℕ) where
   pub legal-7 : legal c 7 p q ≡ true → LegalPair c p q
   unfolding legalFor
   legal-7 e = legal-pair (own 7 e)
+
+  -- only family 1 takes p = 0
+  pub p-positive : (family : ℕ) → (family ≡ 1 → ⊥) → familyRefusal c family p q ≡ 0 → 1 ≤ p
+  p-positive family other e =
+      let a = accepted c family p q e in
+      seven (λ n. (n ≡ 1 → ⊥) → legal c n p q ≡ true → 1 ≤ p)
+      (λ k. absurd (k refl))
+      (λ _ l. legal-2 l)
+      (λ _ l. legal-3 l .0)
+      (λ _ l. omega (arith, legal-4 l))
+      (λ _ l. legal-5 l .0)
+      (λ _ l. legal-6 l .least)
+      (λ _ l. legal-7 l .least)
+      family (a .family-least) (a .family-most) other (a .is-legal)
 
 -- with q 0 only families 1 to 5 are accepted
 pub single-most : (c family p : ℕ) → familyRefusal c family p 0 ≡ 0 → family ≤ 5

@@ -9,7 +9,9 @@ pub mod DashGunluk
 pub mod Legal
 pub mod Promise
 pub mod Ready
+pub mod Prepared
 pub mod Answers
 pub mod Pasted
 pub mod Mapped
 pub mod Summed
+pub mod Totals

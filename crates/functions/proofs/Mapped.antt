@@ -4,6 +4,7 @@ use mathlib.Core.List.{List, [], _∷_, _++_, map}
 use Prim.Native.Nat.{ℕ, zero, suc, _+_, _≤_, _<_}
 use native.Mathlib.Omega.{arith}
 use lib.ListN.{length, getD, set, length-map}
+use Rattle.functions.specs.Words.{EachWithin}
 use Rattle.functions.proofs.Pasted.{Pasting, pasted-here, pasting-start, pasting-length, pasting-next, pasting-end}
 
 pub map-append : (f : ℕ → ℕ) (xs ys : List ℕ) → map f (xs ++ ys) ≡ map f xs ++ map f ys
@@ -30,11 +31,19 @@ module _ (f : ℕ → ℕ) (old : List ℕ) where
     pub mapped-length : length sizes ≡ length old
     mapped-length = pasting-length (map f old) old images sizes i (m .pasting)
 
+    -- the place that is mapped next is as it was
+    mapped-here : i < length sizes → getD sizes i 0 ≡ getD old i 0
+    mapped-here l =
+        let here : i < length old = omega (arith, mapped-length) in
+        ap (λ (xs : List ℕ). getD xs i 0) (m .pasting .list-is) ∙ pasted-here (map f old) old i (omega (arith, images, here)) here
+
+    pub mapped-within : (d : ℕ) → EachWithin d old → i < length sizes → getD sizes i 0 ≤ d
+    mapped-within d within l = rw (mapped-here l) (within i (omega (arith, mapped-length)))
+
     pub mapped-next : (v : ℕ) → i < length sizes → v ≡ f (getD sizes i 0) → Mapped f old (set sizes i v) (i + 1)
     mapped-next v l e =
         let here : i < length old = omega (arith, mapped-length) in
-        let read = ap (λ (xs : List ℕ). getD xs i 0) (m .pasting .list-is) ∙ pasted-here (map f old) old i (omega (arith, images, here)) here in
-        record { pasting = pasting-next (map f old) old images sizes i (m .pasting) v l (e ∙ ap f read ∙ sym (image-at old i here)) }
+        record { pasting = pasting-next (map f old) old images sizes i (m .pasting) v l (e ∙ ap f (mapped-here l) ∙ sym (image-at old i here)) }
 
     pub mapped-end : length sizes ≤ i → sizes ≡ map f old
     mapped-end l = pasting-end (map f old) old images sizes i (m .pasting) l

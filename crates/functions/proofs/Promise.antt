@@ -1,12 +1,11 @@
 -- P1: each family step that refusals 1 to 4 leave is dual-feasible from its capacity to its scale.
 use mathlib.Core.Path.{_≡_, refl, ap, sym, _∙_}
-use mathlib.Core.Bool.{true}
 use Prim.Native.Nat.{ℕ, _+_, _-_, _*_, _/_, _%_, _≤_, _<_}
-use native.Mathlib.Nat.{le-refl, mul-le-mul, div-add-mod', div-self, mod-self, le-div-iff-mul-le, mul-mod-right, mul-mod-left, eq-zero-or-pos, mod-lt}
+use native.Mathlib.Nat.{le-refl, le-trans, mul-le-mul, le-div-iff-mul-le, mul-mod-right, eq-zero-or-pos, mod-lt}
 use native.Mathlib.Omega.{arith}
 use mathlib.Core.Logic.{⊎-elim}
-use Rattle.functions.specs.Words.{limit, DualFeasible}
-use Rattle.functions.specs.Families.{legal, threshold, rounding, quotient, vanderbeck, mirror, burdettJohnson, letchfordLodi, dashGunluk, dashGunlukRest, theta, familyImage, familyScale}
+use Rattle.functions.specs.Words.{limit}
+use Rattle.functions.specs.Families.{threshold, rounding, quotient, vanderbeck, mirror, burdettJohnson, letchfordLodi, dashGunluk, familyImage, familyScale}
 use Rattle.functions.specs.Image.{familyRefusal}
 use Rattle.functions.specs.Promise.{FamilyPromise}
 use Rattle.functions.proofs.Superadditive.{Superadditive, monotone, dual-feasible}
@@ -14,7 +13,7 @@ use Rattle.functions.proofs.Mirror.{mirror-superadditive, mirror-high}
 use Rattle.functions.proofs.FirstFour.{threshold-superadditive, threshold-top, threshold-middle, rounding-superadditive, rounding-whole, quotient-superadditive, vanderbeck-superadditive, vanderbeck-top}
 use Rattle.functions.proofs.Remainder.{burdettJohnson-superadditive, burdettJohnson-is, letchfordLodi-superadditive, letchfordLodi-top}
 use Rattle.functions.proofs.DashGunluk.{dashGunluk-superadditive, rest-small}
-use Rattle.functions.proofs.Legal.{seven, Accepted, accepted, legal-1, legal-2, legal-3, legal-4, legal-5, legal-6, legal-7, LegalPair}
+use Rattle.functions.proofs.Legal.{seven, Accepted, accepted, legal-1, legal-2, legal-3, legal-4, legal-5, legal-6, legal-7}
 
 -- p goes into c at least k times
 div-least : (c p k : ℕ) → 0 < p → k * p ≤ c → k ≤ c / p
@@ -118,3 +117,8 @@ family-promise c family p q e =
     seven (λ n. Accepted c n p q → FamilyPromise c n p q)
     (family-1 c p q) (family-2 c p q) (family-3 c p q) (family-4 c p q) (family-5 c p q) (family-6 c p q) (family-7 c p q)
     family (a .family-least) (a .family-most) a
+
+pub image-small : (c family p q x : ℕ) → familyRefusal c family p q ≡ 0 → x ≤ c → familyImage c family p q x ≤ limit
+image-small c family p q x e l =
+    let promise = family-promise c family p q e in
+    le-trans (promise .image-within-scale x l) (promise .scale-within-limit)

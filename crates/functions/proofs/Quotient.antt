@@ -1,13 +1,13 @@
 -- Quotients and remainders of sums, the survey's Lemma 1 in whole numbers, and the quotient rounded up.
 use mathlib.Core.Path.{_≡_, ap, sym, _∙_}
 use mathlib.Core.Logic.{_⊎_, ⊎-elim}
-use Prim.Native.Nat.{ℕ, _+_, _-_, _*_, _/_, _%_, _^_, _≤_, _<_}
+use Prim.Native.Nat.{ℕ, _+_, _-_, _*_, _/_, _%_, _≤_, _<_}
 use native.Mathlib.Nat.{div-add-mod', mod-lt, mul-le-mul-left, mul-le-mul-right, zero-div, zero-mod}
 use native.Mathlib.Omega.{arith}
-use borrow.Author.Tests.{le-leb, lt-leb, lt-ltb}
+use borrow.Author.Tests.{le-leb, lt-leb}
 use lib.Dec.{leb}
 use lib.Arith.{digits-div, digits-mod}
-use Rattle.functions.specs.Families.{_up_, quotientUp}
+use Rattle.functions.specs.Families.{_up_}
 use Rattle.functions.proofs.Cases.{lt-or-ge}
 use Rattle.functions.proofs.Superadditive.{Superadditive}
 
@@ -131,8 +131,3 @@ module _ (d : ℕ) (pos : 0 < d) where
 
       reached : a ≤ (q + 1) * d → leb ((a up d) - 1) q ≡ leb a ((q + 1) * d)
       reached l = le-leb ((a up d) - 1) q (omega (arith, up-least a (q + 1) l)) ∙ sym (le-leb a ((q + 1) * d) l)
-
-  -- the code's quotient is the formula's where the sum stays within 64 bits
-  pub quotient-up-is : (a : ℕ) → a + d < 2 ^ 64 → quotientUp a d ≡ a up d
-  unfolding quotientUp
-  quotient-up-is a l = rw (lt-ltb 0 d pos, lt-ltb (a + d) (2 ^ 64) l)

@@ -1,62 +1,77 @@
--- What each formula asks of an accepted step and of a size x: the `requires` of the functions in `src/formula.rt`.
-use mathlib.Core.Path.{_≡_, refl, sym}
-use Prim.Native.Nat.{ℕ, _+_, _-_, _*_, _/_, _%_, _^_, _≤_, _<_}
-use native.Mathlib.Nat.{div-le-self, mod-lt}
+-- What a prepared step holds, and what each formula asks of it and of a size: the `requires` of the functions in `src/formula.rt`.
+use mathlib.Core.Path.{_≡_, refl, ap, _∙_}
+use mathlib.Core.Bool.{true, false}
+use Prim.Native.Nat.{ℕ, _-_, _*_, _%_, _^_, _≤_, _<_}
+use native.Mathlib.Nat.{mod-lt}
 use native.Mathlib.Omega.{arith}
+use lib.Dec.{eqb}
 use Rattle.functions.specs.Words.{limit}
-use Rattle.functions.specs.Families.{quotient, letchfordLodi}
-use Rattle.functions.specs.Image.{familyRefusal}
-use Rattle.functions.proofs.Bounds.{product-most}
-use Rattle.functions.proofs.Remainder.{letchfordLodi-top}
-use Rattle.functions.proofs.Legal.{LegalPair, Within, limits, legal-of, legal-1, legal-3, legal-4, legal-5, legal-6, legal-7}
+use Rattle.functions.specs.Families.{quotient, vanderbeck, letchfordLodi, isFamily, legal, familyScale}
+use Rattle.functions.specs.Prepared.{topOf, prepared, PreparedFor}
+use Rattle.functions.specs.declared.steps.PreparedStep.{PreparedStep}
+use Rattle.functions.proofs.Legal.{seven, family-bounds, Within, limits, legal-of, legal-1, legal-3, legal-4, legal-5, legal-6, legal-7}
 
-module _ (c p q : ℕ) where
-  -- a size within the capacity
-  pub narrow : (family : ℕ) → familyRefusal c family p q ≡ 0 → (x : ℕ) → x ≤ c → x < 2 ^ 32
-  narrow family e x l = omega (arith, limits c p q family e)
+-- the families that are mirrors
+pub twice-top : (c family p q : ℕ) → isFamily family ≡ true → (family ≡ 1 → ⊥) → (family ≡ 2 → ⊥) → (family ≡ 5 → ⊥) → (family ≡ 7 → ⊥) → 2 * topOf c family p q ≡ familyScale c family p q
+unfolding topOf familyScale
+twice-top c family p q is a b d e =
+    let bounds = family-bounds family is in
+    seven (λ n. (n ≡ 1 → ⊥) → (n ≡ 2 → ⊥) → (n ≡ 5 → ⊥) → (n ≡ 7 → ⊥) → 2 * topOf c n p q ≡ familyScale c n p q)
+    (λ a _ _ _. absurd (a refl))
+    (λ _ b _ _. absurd (b refl))
+    (λ _ _ _ _. refl)
+    (λ _ _ _ _. refl)
+    (λ _ _ d _. absurd (d refl))
+    (λ _ _ _ _. refl)
+    (λ _ _ _ e. absurd (e refl))
+    family (bounds .0) (bounds .1) a b d e
 
-  pub ready-1 : familyRefusal c 1 p q ≡ 0 → p ≤ c
-  ready-1 e = omega (arith, legal-1 c p q (legal-of c p q 1 e))
+module _ (s : PreparedStep) where
+  pub remainder-is : (family : ℕ) → eqb family 1 ≡ false → PreparedFor family s → s .remainder ≡ s .capacity % s .p
+  unfolding prepared
+  remainder-is family other r = ap (λ (t : PreparedStep). t .remainder) (r .is-prepared) ∙ rw other
 
-  pub ready-2 : familyRefusal c 2 p q ≡ 0 → (x : ℕ) → x < 2 ^ 32 → (0 < c) × (p ≤ limit) × (x < 2 ^ 32)
-  ready-2 e x l = omega (arith, limits c p q 2 e)
+  top-is : (family : ℕ) → PreparedFor family s → s .top ≡ topOf (s .capacity) family (s .p) (s .q)
+  unfolding prepared
+  top-is family r = ap (λ (t : PreparedStep). t .top) (r .is-prepared)
 
-  pub positive-3 : familyRefusal c 3 p q ≡ 0 → 0 < p
-  positive-3 e = legal-3 c p q (legal-of c p q 3 e) .0
+  legal-step : (family : ℕ) → PreparedFor family s → legal (s .capacity) family (s .p) (s .q) ≡ true
+  legal-step family r = legal-of _ _ _ family (r .accepted)
 
-  pub ready-3 : familyRefusal c 3 p q ≡ 0 → (x : ℕ) → x < 2 ^ 32 → (x < 2 ^ 32) × (c ≤ limit) × (0 < p) × (c / p ≡ quotient p c)
-  unfolding quotient
-  ready-3 e x l = (l, limits c p q 3 e .capacity-within-limit, positive-3 e, refl)
+  step-limits : (family : ℕ) → PreparedFor family s → Within (s .capacity) (s .p) (s .q)
+  step-limits family r = limits _ _ _ family (r .accepted)
 
-  pub ready-4 : familyRefusal c 4 p q ≡ 0 → (x : ℕ) → x < 2 ^ 32 → (x < 2 ^ 32) × (0 < c) × (c ≤ limit) × (1 ≤ p) × (p ≤ limit)
-  ready-4 e x l = omega (arith, limits c p q 4 e, legal-4 c p q (legal-of c p q 4 e))
+  module _ (x : ℕ) (l : x ≤ s .capacity) where
+    pub ready-1 : PreparedFor 1 s → s .p ≤ s .capacity
+    ready-1 r = omega (arith, legal-1 _ _ _ (legal-step 1 r))
 
-  pub positive-5 : familyRefusal c 5 p q ≡ 0 → 0 < p
-  positive-5 e = legal-5 c p q (legal-of c p q 5 e) .0
+    pub ready-2 : PreparedFor 2 s → (0 < s .capacity) × (s .p ≤ limit) × (x < 2 ^ 32)
+    ready-2 r = omega (arith, step-limits 2 r)
 
-  pub ready-5 : familyRefusal c 5 p q ≡ 0 → c % p < p
-  ready-5 e = mod-lt c (positive-5 e)
+    pub ready-3 : PreparedFor 3 s → (x < 2 ^ 32) × (s .capacity ≤ limit) × (0 < s .p) × (s .top ≡ quotient (s .p) (s .capacity))
+    unfolding topOf
+    ready-3 r =
+        let w = step-limits 3 r in
+        (omega arith, w .capacity-within-limit, legal-3 _ _ _ (legal-step 3 r) .0, top-is 3 r)
 
-  pair-6 : familyRefusal c 6 p q ≡ 0 → LegalPair c p q
-  pair-6 e = legal-6 c p q (legal-of c p q 6 e)
+    pub ready-4 : PreparedFor 4 s → (x < 2 ^ 32) × (0 < s .capacity) × (s .capacity ≤ limit) × (1 ≤ s .p) × (s .p ≤ limit) × (s .top ≡ vanderbeck (s .capacity) (s .p) (s .capacity))
+    unfolding topOf
+    ready-4 r =
+        let w = step-limits 4 r in
+        (omega arith, w .capacity-positive, w .capacity-within-limit, omega (arith, legal-4 _ _ _ (legal-step 4 r)), w .p-within-limit, top-is 4 r)
 
-  pub positive-6 : familyRefusal c 6 p q ≡ 0 → 0 < p
-  positive-6 e = pair-6 e .least
+    pub ready-5 : PreparedFor 5 s → s .remainder < s .p
+    ready-5 r = rw (remainder-is 5 refl r) (mod-lt (s .capacity) (legal-5 _ _ _ (legal-step 5 r) .0))
 
-  pub top-6 : familyRefusal c 6 p q ≡ 0 → (q + 1) * (c / p) ≤ (limit + 1) * (limit + 1)
-  top-6 e = product-most (q + 1) (c / p) (omega (arith, limits c p q 6 e)) (omega (arith, limits c p q 6 e, div-le-self c p))
+    pub ready-6 : PreparedFor 6 s → (x < 2 ^ 32) × (s .capacity ≤ limit) × (s .p ≤ s .capacity) × (s .q ≤ limit) × (s .remainder < s .p) × (s .p - s .remainder ≤ s .q * s .remainder) × (s .top ≡ letchfordLodi (s .p) (s .q) (s .remainder) (s .capacity))
+    unfolding topOf
+    ready-6 r =
+        let w = step-limits 6 r in
+        let pair = legal-6 _ _ _ (legal-step 6 r) in
+        rw (remainder-is 6 refl r) (omega arith, w .capacity-within-limit, pair .most, w .q-within-limit, pair .below, pair .enough, top-is 6 r)
 
-  pub ready-6 : familyRefusal c 6 p q ≡ 0 → (x : ℕ) → x < 2 ^ 32 → (x < 2 ^ 32) × (c ≤ limit) × (p ≤ c) × (q ≤ limit) × (c % p < p) × (p - c % p ≤ q * (c % p)) × ((q + 1) * (c / p) ≡ letchfordLodi p q (c % p) c)
-  ready-6 e x l =
-      let w = limits c p q 6 e in
-      let pair = pair-6 e in
-      (l, w .capacity-within-limit, pair .most, w .q-within-limit, pair .below, pair .enough, sym (letchfordLodi-top c p q (pair .least)))
-
-  pair-7 : familyRefusal c 7 p q ≡ 0 → LegalPair c p q
-  pair-7 e = legal-7 c p q (legal-of c p q 7 e)
-
-  pub positive-7 : familyRefusal c 7 p q ≡ 0 → 0 < p
-  positive-7 e = pair-7 e .least
-
-  pub ready-7 : familyRefusal c 7 p q ≡ 0 → (x : ℕ) → x ≤ c → (c % p < p) × (p ≤ limit) × (q ≤ limit) × (x ≤ limit)
-  ready-7 e x l = omega (arith, limits c p q 7 e, pair-7 e .below)
+    pub ready-7 : PreparedFor 7 s → (s .remainder < s .p) × (s .p ≤ limit) × (s .q ≤ limit) × (x ≤ limit)
+    ready-7 r =
+        let w = step-limits 7 r in
+        let pair = legal-7 _ _ _ (legal-step 7 r) in
+        omega (arith, remainder-is 7 refl r)

@@ -1,25 +1,28 @@
--- A sum modulo 2^64 of a list's images: the invariant of the loop, and what a turn does to it.
+-- The images of a list summed: the invariant of the loop, what a turn does to it, and how great the sum can be.
 use mathlib.Core.Path.{_≡_, refl, ap, ap₂, sym, _∙_}
 use mathlib.Core.List.{List, [], _∷_, map}
-use Prim.Native.Nat.{ℕ, _+_, _%_, _^_, _≤_, _<_}
-use native.Mathlib.Nat.{mod-add-mod}
+use Prim.Native.Nat.{ℕ, suc, _+_, _*_, _≤_, _<_}
 use native.Mathlib.Numerals.{add-one}
 use native.Mathlib.Omega.{arith}
 use lib.ListN.{length, getD, take}
 use lib.Seq.{take-all, take-suc}
-use Rattle.functions.specs.Words.{total}
+use Rattle.functions.specs.Words.{limit, total, EachWithin}
+use Rattle.functions.specs.Families.{familyImage}
+use Rattle.functions.specs.Image.{familyRefusal}
 use Rattle.functions.proofs.Superadditive.{total-append}
 use Rattle.functions.proofs.Mapped.{map-append}
+use Rattle.functions.proofs.Promise.{image-small}
 
--- the images of the first i sizes sum to `sum`
-pub record Summed (f : ℕ → ℕ) (sizes : List ℕ) (sum i : ℕ) : Type 0 where
+-- the images of the first i sizes, none over d, sum to `sum`
+pub record Summed (f : ℕ → ℕ) (d : ℕ) (sizes : List ℕ) (sum i : ℕ) : Type 0 where
   pub passed : i ≤ length sizes
-  pub sum-is : sum ≡ total (map f (take i sizes)) % 2 ^ 64
+  pub sum-is : sum ≡ total (map f (take i sizes))
+  pub sum-most : sum ≤ i * d
 
-module _ (f : ℕ → ℕ) (sizes : List ℕ) where
-  pub summed-start : Summed f sizes 0 0
+module _ (f : ℕ → ℕ) (d : ℕ) (sizes : List ℕ) where
+  pub summed-start : Summed f d sizes 0 0
   unfolding total
-  summed-start = record { passed = omega arith; sum-is = refl }
+  summed-start = record { passed = omega arith; sum-is = refl; sum-most = omega arith }
 
   one-more : (i : ℕ) → i < length sizes → total (map f (take (i + 1) sizes)) ≡ total (map f (take i sizes)) + f (getD sizes i 0)
   unfolding total
@@ -29,17 +32,19 @@ module _ (f : ℕ → ℕ) (sizes : List ℕ) where
       ∙ total-append (map f (take i sizes)) (map f (getD sizes i 0 ∷ []))
       ∙ omega arith
 
-  module _ (sum i : ℕ) (s : Summed f sizes sum i) where
-    pub summed-next : (next image : ℕ) → i < length sizes → image ≡ f (getD sizes i 0) → next ≡ (sum + image) % 2 ^ 64 → Summed f sizes next (i + 1)
-    summed-next next image l image-is next-is =
-        record {
-          passed = omega arith;
-          sum-is =
-              next-is
-              ∙ ap₂ (λ (a b : ℕ). (a + b) % 2 ^ 64) (s .sum-is) image-is
-              ∙ mod-add-mod (total (map f (take i sizes))) (2 ^ 64) (f (getD sizes i 0))
-              ∙ ap (λ (n : ℕ). n % 2 ^ 64) (sym (one-more i l));
-        }
+  module _ (sum i : ℕ) (s : Summed f d sizes sum i) where
+    pub summed-next : (image : ℕ) → i < length sizes → image ≡ f (getD sizes i 0) → image ≤ d → Summed f d sizes (sum + image) (i + 1)
+    summed-next image l image-is small =
+        record { passed = omega arith; sum-is = ap₂ _+_ (s .sum-is) image-is ∙ sym (one-more i l); sum-most = omega arith }
 
-    pub summed-end : length sizes ≤ i → sum ≡ total (map f sizes) % 2 ^ 64
-    summed-end l = s .sum-is ∙ ap (λ (xs : List ℕ). total (map f xs) % 2 ^ 64) (take-all i sizes l)
+    pub summed-end : length sizes ≤ i → sum ≡ total (map f sizes)
+    summed-end l = s .sum-is ∙ ap (λ (xs : List ℕ). total (map f xs)) (take-all i sizes l)
+
+-- where no image is over d, the images of a list total at most d for each
+pub total-most : (f : ℕ → ℕ) (d : ℕ) (xs : List ℕ) → ((i : ℕ) → i < length xs → f (getD xs i 0) ≤ d) → total (map f xs) ≤ length xs * d
+unfolding total
+total-most f d [] most = omega arith
+total-most f d (x ∷ xs) most = omega (arith, most 0 (omega arith), total-most f d xs (λ i l. most (suc i) (omega arith)))
+
+pub sum-small : (c family p q : ℕ) (xs : List ℕ) → familyRefusal c family p q ≡ 0 → EachWithin c xs → total (map (familyImage c family p q) xs) ≤ length xs * limit
+sum-small c family p q xs e within = total-most (familyImage c family p q) limit xs (λ i l. image-small c family p q (getD xs i 0) e (within i l))

@@ -1,7 +1,7 @@
 -- The seven families of document 01, "Families": formulas, legal parameters and scales.
 -- c is the capacity, p and q are the parameters, x is a size, and r is c mod p.
 use mathlib.Core.Bool.{Bool, false, cond, _&&_, _||_}
-use Prim.Native.Nat.{ℕ, _+_, _-_, _*_, _/_, _%_, _^_}
+use Prim.Native.Nat.{ℕ, _+_, _-_, _*_, _/_, _%_}
 use lib.Dec.{leb, ltb, eqb}
 use Rattle.functions.specs.Words.{limit}
 
@@ -9,10 +9,6 @@ infixl 65 _up_
 -- the quotient rounded up
 unfoldable pub _up_ : ℕ → ℕ → ℕ
 a up b = (a + (b - 1)) / b
-
--- the quotient rounded up, as the code gives it: 0 where the divisor is 0 or the sum of both would pass 64 bits
-unfoldable pub quotientUp : ℕ → ℕ → ℕ
-quotientUp a b = cond (ltb 0 b && ltb (a + b) (2 ^ 64)) (a up b) 0
 
 -- Theorem 1 of the survey: the mirror of g about half the capacity
 unfoldable pub mirror : ℕ → (ℕ → ℕ) → ℕ → ℕ

@@ -1,12 +1,10 @@
 -- The image operation of document 01, "Operations and what they refuse", and the judgement of a family step, which is its refusals 1 to 4.
 use mathlib.Core.Bool.{cond, not}
-use mathlib.Core.List.{List, map}
-use Prim.Native.Nat.{ℕ, _%_, _^_}
+use Prim.Native.Nat.{ℕ}
 use lib.Dec.{ltb, eqb}
-use Rattle.functions.specs.Words.{limit, capacityFits, total}
+use Rattle.functions.specs.Words.{limit, capacityFits}
 use Rattle.functions.specs.Families.{isFamily, legal, familyImage, familyScale}
 use Rattle.functions.specs.declared.FamilyAnswer.{FamilyAnswer}
-use Rattle.functions.specs.declared.FamilySum.{FamilySum}
 use Rattle.functions.specs.declared.ImageAnswer.{ImageAnswer}
 
 -- the number that refuses a family step at capacity c, or 0
@@ -37,25 +35,4 @@ imageAnswer c family p q x =
       number = imageRefusal c family p q x;
       image = cond (eqb (imageRefusal c family p q x) 0) (familyImage c family p q x) 0;
       scale = cond (eqb (imageRefusal c family p q x) 0) (familyScale c family p q) 0;
-    }
-
--- the image that the operation answers: 0 where it refuses
-unfoldable pub imageField : ℕ → ℕ → ℕ → ℕ → ℕ → ℕ
-imageField c family p q x = imageAnswer c family p q x .image
-
--- a list of sizes mapped through a step, each place its image; a refused step leaves the list as it was
-unfoldable pub mappedSizes : ℕ → ℕ → ℕ → ℕ → List ℕ → List ℕ
-mappedSizes c family p q xs = cond (eqb (familyRefusal c family p q) 0) (map (imageField c family p q) xs) xs
-
--- the sum of the images of a list under a step with q 0, as the code gives it: modulo 2^64
-unfoldable pub imagesSum : ℕ → ℕ → ℕ → List ℕ → ℕ
-imagesSum c family p xs = total (map (familyImage c family p 0) xs) % 2 ^ 64
-
--- the number, and the scale and the sum where it is 0
-unfoldable pub familySum : ℕ → ℕ → ℕ → List ℕ → FamilySum
-familySum c family p xs =
-    record {
-      number = familyRefusal c family p 0;
-      scale = cond (eqb (familyRefusal c family p 0) 0) (familyScale c family p 0) 0;
-      sum = cond (eqb (familyRefusal c family p 0) 0) (imagesSum c family p xs) 0;
     }

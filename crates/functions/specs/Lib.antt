@@ -1,5 +1,6 @@
 pub mod Words
 pub mod Families
 pub mod Image
+pub mod Prepared
 pub mod Promise
 pub mod Rows

@@ -1,8 +1,9 @@
 -- The words of document 01, "Words".
 use mathlib.Core.List.{List, [], _∷_, map}
 use mathlib.Core.Bool.{Bool, _&&_}
-use Prim.Native.Nat.{ℕ, _+_, _≤_}
+use Prim.Native.Nat.{ℕ, _+_, _≤_, _<_}
 use lib.Dec.{leb}
+use lib.ListN.{length, getD}
 
 -- the greatest capacity, parameter, scale and table entry
 abbrev pub limit : ℕ
@@ -16,6 +17,10 @@ capacityFits c = leb 1 c && leb c limit
 unfoldable pub total : List ℕ → ℕ
 total [] = 0
 total (x ∷ xs) = x + total xs
+
+-- each number of a list is at most c
+abbrev pub EachWithin : ℕ → List ℕ → Type 0
+EachWithin c xs = (i : ℕ) → i < length xs → getD xs i 0 ≤ c
 
 -- f is dual-feasible from the capacity c to the scale d: the images of each list that fits c total at most d
 unfoldable pub DualFeasible : (ℕ → ℕ) → ℕ → ℕ → Type 0

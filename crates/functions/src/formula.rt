@@ -1,17 +1,11 @@
 // The seven formulas at one size. What a formula needs and the size does not change, as the
 // remainder of the capacity, comes in as a number, so that a loop over sizes computes it once.
+use crate::round_up;
 ghost use mathlib.Core.Path.{_≡_};
 ghost use Prim.Native.Nat.{ℕ, _+_, _-_, _*_, _/_, _%_, _^_, _≤_, _<_, min};
 ghost use Rattle.functions.specs.Words.{limit};
-ghost use Rattle.functions.specs.Families.{_up_, mirror, threshold, rounding, quotient, vanderbeck, burdettJohnson, letchfordLodi, dashGunluk};
-
-// The quotient rounded up.
-pub(crate) fn round_up(a: u64, b: u64) -> u64
-    requires { ⌜ (0 < b) × (a + b < 2 ^ 64) ⌝ }
-    ensures { λ r. ⌜ r ≡ (a up b) ⌝ }
-{
-    (a + (b - 1)) / b
-}
+ghost use Rattle.functions.specs.Families.{mirror, threshold, rounding, quotient, vanderbeck};
+ghost use Rattle.functions.specs.Families.{burdettJohnson, letchfordLodi, dashGunluk};
 
 fn lesser(a: u64, b: u64) -> u64
     ensures { λ r. ⌜ r ≡ min a b ⌝ }
@@ -36,7 +30,8 @@ fn lesser_part(capacity: u64, x: u64) -> u64
 // Half of the mirror's value at x, but for the middle.
 fn side(capacity: u64, top: u64, part: u64, x: u64) -> u64
     requires { ⌜ (x < 2 ^ 32) × (part ≤ top) ⌝ }
-    ensures { λ r. ⌜ (r ≤ top) × ((2 * x < capacity → r ≡ part) × (capacity ≤ 2 * x → r ≡ top - part)) ⌝ }
+    ensures { λ r. ⌜ (r ≤ top)
+        × ((2 * x < capacity → r ≡ part) × (capacity ≤ 2 * x → r ≡ top - part)) ⌝ }
 {
     if 2 * x < capacity { part } else { top - part }
 }
@@ -45,7 +40,8 @@ fn side(capacity: u64, top: u64, part: u64, x: u64) -> u64
 // Both tests choose between numbers that are there, so that the compiler needs no branch.
 fn mirrored(capacity: u64, top: u64, part: u64, x: u64) -> u64
     requires { ⌜ (x < 2 ^ 32) × (part ≤ top) × (2 * top < 2 ^ 64) ⌝ }
-    ensures { λ r. ⌜ ((g : ℕ → ℕ) → g capacity ≡ top → g (min x (capacity - x)) ≡ part → r ≡ mirror capacity g x) ⌝ }
+    ensures { λ r. ⌜ ((g : ℕ → ℕ) → g capacity ≡ top → g (min x (capacity - x)) ≡ part
+        → r ≡ mirror capacity g x) ⌝ }
 {
     let half = side(capacity, top, part, x);
     if 2 * x == capacity { top } else { 2 * half }
@@ -83,14 +79,16 @@ pub(crate) fn mirrored_quotient(capacity: u64, p: u64, top: u64, x: u64) -> u64
     mirrored(capacity, top, lesser_part(capacity, x) / p, x)
 }
 
-// Family 4. A quotient rounded up, less 1, is that of the number before, rounded down.
-pub(crate) fn mirrored_vanderbeck(capacity: u64, p: u64, x: u64) -> u64
-    requires { ⌜ (x < 2 ^ 32) × (0 < capacity) × (capacity ≤ limit) × (1 ≤ p) × (p ≤ limit) ⌝ }
+// Family 4, with top = p - 1. A quotient rounded up, less 1, is that of the number before,
+// rounded down.
+pub(crate) fn mirrored_vanderbeck(capacity: u64, p: u64, top: u64, x: u64) -> u64
+    requires { ⌜ (x < 2 ^ 32) × (0 < capacity) × (capacity ≤ limit) × (1 ≤ p) × (p ≤ limit)
+        × (top ≡ vanderbeck capacity p capacity) ⌝ }
     ensures { λ r. ⌜ r ≡ mirror capacity (vanderbeck capacity p) x ⌝ }
 {
     let y = lesser_part(capacity, x);
     let part = (p * y - lesser(y, 1)) / capacity;
-    mirrored(capacity, p - 1, part, x)
+    mirrored(capacity, top, part, x)
 }
 
 // Family 5, with r = capacity % p.
@@ -117,7 +115,8 @@ pub(crate) fn mirrored_letchford_lodi(
     top: u64,
     x: u64,
 ) -> u64
-    requires { ⌜ (x < 2 ^ 32) × (capacity ≤ limit) × (p ≤ capacity) × (q ≤ limit) × (r < p) × (p - r ≤ q * r) × (top ≡ letchfordLodi p q r capacity) ⌝ }
+    requires { ⌜ (x < 2 ^ 32) × (capacity ≤ limit) × (p ≤ capacity) × (q ≤ limit)
+        × (r < p) × (p - r ≤ q * r) × (top ≡ letchfordLodi p q r capacity) ⌝ }
     ensures { λ y. ⌜ y ≡ mirror capacity (letchfordLodi p q r) x ⌝ }
 {
     let part = letchford_lodi(p, q, r, lesser_part(capacity, x));

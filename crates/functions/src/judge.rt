@@ -2,9 +2,10 @@
 use crate::LIMIT;
 ghost use mathlib.Core.Path.{_≡_};
 ghost use mathlib.Core.Bool.{true};
-ghost use Prim.Native.Nat.{_-_, _*_, _/_, _%_, _≤_, _<_};
-ghost use Rattle.functions.specs.Words.{limit};
+ghost use Prim.Native.Nat.{_+_, _-_, _*_, _/_, _%_, _≤_, _<_};
+ghost use Rattle.functions.specs.Words.{limit, capacityFits};
 ghost use Rattle.functions.specs.Families.{isFamily, legal, legalFor, legalPair, familyScale};
+ghost use Rattle.functions.specs.Prepared.{topOf};
 
 pub(crate) fn is_family(family: u8) -> bool
     ensures { λ r. ⌜ r ≡ isFamily family ⌝ }
@@ -65,19 +66,31 @@ fn gaps(capacity: u64, p: u64) -> u64
     capacity / p * (p - capacity % p)
 }
 
+// The value at the capacity of what families 3, 4 and 6 mirror, which is half their scale.
+pub(crate) fn top(capacity: u64, family: u8, p: u64, q: u64) -> u64
+    requires { ⌜ (capacityFits capacity ≡ true) × (legal capacity family p q ≡ true) ⌝ }
+    ensures { λ r. ⌜ (r ≡ topOf capacity family p q) × (r ≤ (limit + 1) * (limit + 1)) ⌝ }
+{
+    match family {
+        3 => capacity / p,
+        4 => p - 1,
+        6 => (q + 1) * (capacity / p),
+        _ => 0,
+    }
+}
+
 // The scale. Of each product but that of family 7 the factors are within the limit; there
-// the first factor is within the capacity.
+// the first factor is within the capacity. Families 3, 4 and 6 come last.
 pub(crate) fn scale(capacity: u64, family: u8, p: u64, q: u64) -> u64
-    requires { ⌜ (1 ≤ capacity) × (capacity ≤ limit) × (1 ≤ family) × (family ≤ 7) × (legal capacity family p q ≡ true) ⌝ }
+    requires { ⌜ (capacityFits capacity ≡ true) × (isFamily family ≡ true)
+        × (legal capacity family p q ≡ true) ⌝ }
     ensures { λ r. ⌜ r ≡ familyScale capacity family p q ⌝ }
 {
     match family {
         1 => capacity,
         2 => capacity * p,
-        3 => 2 * (capacity / p),
-        4 => 2 * (p - 1),
         5 => gaps(capacity, p),
-        6 => 2 * ((q + 1) * (capacity / p)),
-        _ => gaps(capacity, p) * (q + 1),
+        7 => gaps(capacity, p) * (q + 1),
+        _ => 2 * top(capacity, family, p, q),
     }
 }

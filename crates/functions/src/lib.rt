@@ -1,16 +1,16 @@
-// The seven families of dual-feasible functions: the image of a size, the judgement of a family
-// step, a whole list of sizes mapped through one, and the sum of a list's images.
+// The seven families of dual-feasible functions: the judgement of a family step, the image of a
+// size, and under an accepted step a list of sizes mapped, or its images summed.
 mod formula;
 mod judge;
-mod sizes;
-mod sums;
+mod steps;
 
 ghost use mathlib.Core.Path.{_≡_};
 ghost use mathlib.Core.List.{map};
-ghost use Prim.Native.Nat.{_≤_};
-ghost use Rattle.functions.specs.Words.{capacityFits};
-ghost use Rattle.functions.specs.Families.{familyImage, quotientUp};
-ghost use Rattle.functions.specs.Image.{familyRefusal, familyAnswer, familySum, imageAnswer, imageField, imagesSum, mappedSizes};
+ghost use Prim.Native.Nat.{_+_, _*_, _^_, _<_};
+ghost use lib.ListN.{length};
+ghost use Rattle.functions.specs.Words.{limit, capacityFits, total, EachWithin};
+ghost use Rattle.functions.specs.Families.{_up_, familyImage, familyScale};
+ghost use Rattle.functions.specs.Image.{familyRefusal, familyAnswer, imageAnswer};
 
 // The greatest capacity, parameter, scale and table entry.
 pub const LIMIT: u64 = 1_000_000_000;
@@ -29,12 +29,12 @@ pub struct FamilyAnswer {
     pub scale: u64,
 }
 
-// The sum of a list's images under a step without q: the number that refuses the step, or 0 with
-// the scale and the sum.
-pub struct FamilySum {
-    pub number: u64,
-    pub scale: u64,
-    pub sum: u64,
+// The quotient rounded up.
+pub fn round_up(a: u64, b: u64) -> u64
+    requires { ⌜ (0 < b) × (a + b < 2 ^ 64) ⌝ }
+    ensures { λ r. ⌜ r ≡ (a up b) ⌝ }
+{
+    (a + (b - 1)) / b
 }
 
 pub fn capacity_fits(capacity: u64) -> bool
@@ -74,23 +74,12 @@ pub fn judge_family(capacity: u64, family: u8, p: u64, q: u64) -> FamilyAnswer
     FamilyAnswer { number: 0, scale }
 }
 
-// The image under an accepted step of a size within the capacity.
-fn image_of(capacity: u64, family: u8, p: u64, q: u64, x: u64) -> u64
-    requires { ⌜ (familyRefusal capacity family p q ≡ 0) × (x ≤ capacity) ⌝ }
-    ensures { λ r. ⌜ r ≡ familyImage capacity family p q x ⌝ }
+// The scale of an accepted step.
+pub fn scale_of(capacity: u64, family: u8, p: u64, q: u64) -> u64
+    requires { ⌜ familyRefusal capacity family p q ≡ 0 ⌝ }
+    ensures { λ r. ⌜ r ≡ familyScale capacity family p q ⌝ }
 {
-    match family {
-        1 => formula::threshold(capacity, p, x),
-        2 => formula::rounding(capacity, p, x),
-        3 => formula::mirrored_quotient(capacity, p, capacity / p, x),
-        4 => formula::mirrored_vanderbeck(capacity, p, x),
-        5 => formula::burdett_johnson(p, capacity % p, x),
-        6 => {
-            let top = (q + 1) * (capacity / p);
-            formula::mirrored_letchford_lodi(capacity, p, q, capacity % p, top, x)
-        }
-        _ => formula::dash_gunluk(p, q, capacity % p, x),
-    }
+    judge::scale(capacity, family, p, q)
 }
 
 fn answer_for(capacity: u64, family: u8, p: u64, q: u64, x: u64) -> ImageAnswer
@@ -111,9 +100,10 @@ fn answer_for(capacity: u64, family: u8, p: u64, q: u64, x: u64) -> ImageAnswer
             scale: 0,
         };
     }
+    let step = steps::prepare(capacity, family, p, q);
     ImageAnswer {
         number: 0,
-        image: image_of(capacity, family, p, q, x),
+        image: steps::image_of(family, step, x),
         scale: judged.scale,
     }
 }
@@ -141,78 +131,33 @@ pub extern "C" fn windowfloor_image(
     }
 }
 
-// Maps each size through an accepted step, in place.
-fn map_accepted(capacity: u64, family: u8, p: u64, q: u64, list: &mut [u32])
-    requires { ⌜ familyRefusal capacity family p q ≡ 0 ⌝ }
-    ensures { λ _. ⌜ now (list .exit) ≡ map (imageField capacity family p q) (now (list .entry)) ⌝ }
+// Maps each size of a list to its image under an accepted step, in place.
+pub fn map_family(capacity: u64, family: u8, p: u64, q: u64, list: &mut [u32])
+    requires { ⌜ (familyRefusal capacity family p q ≡ 0) × EachWithin capacity (now list) ⌝ }
+    ensures { λ _. ⌜ now (list .exit) ≡ map (familyImage capacity family p q) (now (list .entry)) ⌝ }
 {
     match family {
-        1 => sizes::map_threshold(capacity, p, list),
-        2 => sizes::map_rounding(capacity, p, list),
-        3 => sizes::map_mirrored_quotient(capacity, p, list),
-        4 => sizes::map_mirrored_vanderbeck(capacity, p, list),
-        5 => sizes::map_burdett_johnson(capacity, p, list),
-        6 => sizes::map_mirrored_letchford_lodi(capacity, p, q, list),
-        _ => sizes::map_dash_gunluk(capacity, p, q, list),
+        1 => steps::map_sizes(capacity, 1, p, q, list),
+        2 => steps::map_sizes(capacity, 2, p, q, list),
+        3 => steps::map_sizes(capacity, 3, p, q, list),
+        4 => steps::map_sizes(capacity, 4, p, q, list),
+        5 => steps::map_sizes(capacity, 5, p, q, list),
+        6 => steps::map_sizes(capacity, 6, p, q, list),
+        _ => steps::map_sizes(capacity, 7, p, q, list),
     }
 }
 
-// Maps each size of a list to its image, in place; a size over the capacity becomes 0. A refused
-// step changes nothing.
-pub fn map_family(capacity: u64, family: u8, p: u64, q: u64, list: &mut [u32]) -> FamilyAnswer
-    ensures answer { λ r. ⌜ r ≡ familyAnswer capacity family p q ⌝ }
-    ensures mapped { λ _. ⌜ now (list .exit) ≡ mappedSizes capacity family p q (now (list .entry)) ⌝ }
-{
-    let judged = judge_family(capacity, family, p, q);
-    if judged.number == 0 {
-        map_accepted(capacity, family, p, q, list);
-    }
-    judged
-}
-
-// Sums the images of the sizes under an accepted step. With q 0 only families 1 to 5 are accepted.
-fn sum_accepted(capacity: u64, family: u8, p: u64, list: &[u32]) -> u64
-    requires { ⌜ familyRefusal capacity family p 0 ≡ 0 ⌝ }
-    ensures { λ r. ⌜ r ≡ imagesSum capacity family p (now (list .entry)) ⌝ }
+// Sums the images of a list under an accepted step with q 0. Only families 1 to 5 have such steps.
+pub fn sum_family(capacity: u64, family: u8, p: u64, list: &[u32]) -> u64
+    requires { ⌜ (familyRefusal capacity family p 0 ≡ 0) × EachWithin capacity (now list)
+        × (length (now list) * limit < 2 ^ 64) ⌝ }
+    ensures { λ r. ⌜ r ≡ total (map (familyImage capacity family p 0) (now (list .entry))) ⌝ }
 {
     match family {
-        1 => sums::sum_threshold(capacity, p, list),
-        2 => sums::sum_rounding(capacity, p, list),
-        3 => sums::sum_mirrored_quotient(capacity, p, list),
-        4 => sums::sum_mirrored_vanderbeck(capacity, p, list),
-        _ => sums::sum_burdett_johnson(capacity, p, list),
+        1 => steps::sum_sizes(capacity, 1, p, list),
+        2 => steps::sum_sizes(capacity, 2, p, list),
+        3 => steps::sum_sizes(capacity, 3, p, list),
+        4 => steps::sum_sizes(capacity, 4, p, list),
+        _ => steps::sum_sizes(capacity, 5, p, list),
     }
-}
-
-// The images of a list under a step with q 0, summed modulo 2^64. The step is judged once, and no
-// size is tested: where each is within the capacity, each image is within the scale.
-pub fn sum_family(capacity: u64, family: u8, p: u64, list: &[u32]) -> FamilySum
-    ensures { λ r. ⌜ r ≡ familySum capacity family p (now (list .entry)) ⌝ }
-{
-    let judged = judge_family(capacity, family, p, 0);
-    if judged.number != 0 {
-        return FamilySum {
-            number: judged.number,
-            scale: 0,
-            sum: 0,
-        };
-    }
-    FamilySum {
-        number: 0,
-        scale: judged.scale,
-        sum: sum_accepted(capacity, family, p, list),
-    }
-}
-
-// The quotient rounded up, for the crates above.
-pub fn quotient_up(a: u64, b: u64) -> u64
-    ensures { λ r. ⌜ r ≡ quotientUp a b ⌝ }
-{
-    if b == 0 {
-        return 0;
-    }
-    if 18_446_744_073_709_551_615 - b < a {
-        return 0;
-    }
-    formula::round_up(a, b)
 }

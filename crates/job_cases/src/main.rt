@@ -12,7 +12,7 @@ ghost use lib.ListN.{length};
 const MOST_BLOCKS: usize = 32;
 
 // The most bytes of a job, one more than it may have, and the most runs.
-const MOST_BYTES: usize = 65_536;
+const MOST_BYTES: usize = fields::MOST_BYTES + 1;
 
 // The most places of a buffer.
 const MOST_PLACES: usize = 2_100;

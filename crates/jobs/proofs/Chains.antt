@@ -1,45 +1,22 @@
 -- P3: one claim about a whole chain, from what families and tables promise and from composition alone.
-use mathlib.Core.Path.{_≡_, refl, ap, _∙_}
+use mathlib.Core.Path.{_≡_, refl}
 use mathlib.Core.Bool.{Bool, true, false, cond}
-use mathlib.Core.List.{List, [], _∷_, map, map-id, map-map}
+use mathlib.Core.List.{List, [], _∷_}
 use Prim.Native.Nat.{ℕ, _≤_}
-use native.Mathlib.Nat.{le-refl}
 use native.Mathlib.Omega.{arith}
-use borrow.Author.Tests.{eqb-true, eq-eqb}
+use borrow.Author.Tests.{eqb-true}
 use lib.Dec.{eqb}
 use lib.ListN.{length}
-use Rattle.functions.specs.Words.{limit, total, DualFeasible}
+use Rattle.functions.specs.Words.{limit}
 use Rattle.functions.specs.Promise.{StepPromise}
 use Rattle.functions.proofs.Cases.{then-zero}
+use Rattle.functions.proofs.Totals.{identity-promise, composed-promise}
 use Rattle.functions.proofs.Promise.{family-promise}
 use Rattle.tables.specs.Table.{entry, tableCapacity, tableScale}
 use Rattle.tables.specs.Check.{tableRefusal}
 use Rattle.tables.proofs.Outcome.{checked-step}
-use Rattle.jobs.specs.Chain.{Step, onFamily, onTable, capacityRefusal, stepImage, stepScale, stepRefusal, chainImage, chainScale, ChainAccepted}
-
--- no step at all: the identity
-identity : (c : ℕ) → 1 ≤ c → c ≤ limit → StepPromise (λ x. x) c c
-unfolding DualFeasible
-identity c l m =
-    record {
-      dual-feasible = λ xs h. rw map-id h;
-      scale-is-image = refl;
-      scale-positive = l;
-      scale-within-limit = m;
-      image-within-scale = λ x h. h;
-    }
-
--- two functions of which the second's capacity is the first's scale
-compose : (f g : ℕ → ℕ) (c d e : ℕ) → StepPromise f c d → StepPromise g d e → StepPromise (λ x. g (f x)) c e
-unfolding DualFeasible
-compose f g c d e F G =
-    record {
-      dual-feasible = λ xs h. rw (← (map-map g f xs)) (G .dual-feasible (map f xs) (F .dual-feasible xs h));
-      scale-is-image = ap g (F .scale-is-image) ∙ G .scale-is-image;
-      scale-positive = G .scale-positive;
-      scale-within-limit = G .scale-within-limit;
-      image-within-scale = λ x h. G .image-within-scale (f x) (F .image-within-scale x h);
-    }
+use Rattle.fields.specs.Parts.{Step, onFamily, onTable}
+use Rattle.jobs.specs.Chain.{capacityRefusal, stepImage, stepScale, stepRefusal, chainImage, chainScale, ChainAccepted}
 
 -- a table that the check accepts, at the present capacity
 table-step : (c : ℕ) (t : List ℕ) → stepRefusal c (onTable t) ≡ 0 → StepPromise (entry t) c (tableScale t)
@@ -60,7 +37,7 @@ step-promise c (onTable t) l e = table-step c t e
 
 pub chain-promise : (steps : List Step) (c : ℕ) → 1 ≤ c → c ≤ limit → ChainAccepted c steps → StepPromise (chainImage c steps) c (chainScale c steps)
 unfolding chainImage chainScale ChainAccepted
-chain-promise [] c l m a = identity c l m
+chain-promise [] c l m a = identity-promise c l m
 chain-promise (s ∷ steps) c l m a =
     let first = step-promise c s l (a .0) in
-    compose (stepImage c s) (chainImage (stepScale c s) steps) c (stepScale c s) (chainScale (stepScale c s) steps) first (chain-promise steps (stepScale c s) (first .scale-positive) (first .scale-within-limit) (a .1))
+    composed-promise (stepImage c s) (chainImage (stepScale c s) steps) c (stepScale c s) (chainScale (stepScale c s) steps) first (chain-promise steps (stepScale c s) (first .scale-positive) (first .scale-within-limit) (a .1))

@@ -1,61 +1,55 @@
 -- The images and the answer of an accepted job, from what the code computes.
 use mathlib.Core.Path.{_≡_, ap, sym, _∙_}
 use mathlib.Core.List.{List, map}
-use Prim.Native.Nat.{ℕ, _+_, _-_, _*_, _≤_, _<_}
+use Prim.Native.Nat.{ℕ, _+_, _*_, _^_, _≤_, _<_}
 use native.Mathlib.Omega.{arith}
 use borrow.Author.Tests.{eq-eqb, ne-eqb}
-use lib.ListN.{length, length-map, getD, take, drop}
-use Rattle.functions.specs.Words.{limit, total}
-use Rattle.functions.specs.Families.{_up_, quotientUp}
+use lib.ListN.{length, length-map}
+use Rattle.functions.specs.Words.{total}
+use Rattle.functions.specs.Families.{_up_}
 use Rattle.functions.specs.Promise.{StepPromise}
-use Rattle.functions.proofs.Quotient.{quotient-up-is}
-use Rattle.jobs.specs.Chain.{chainImage, chainScale, chainFloor, ChainAccepted}
-use Rattle.jobs.specs.Fields.{words, fieldValue, jobKind, jobCapacity, jobSizes, jobSteps}
+use Rattle.fields.specs.Bytes.{words}
+use Rattle.fields.specs.Parts.{Field, jobKind, jobCapacity, jobSizes, jobSteps}
+use Rattle.fields.specs.Grammar.{mostSizes}
+use Rattle.fields.specs.Record.{spanBytes, stepsIn, PartsOf}
+use Rattle.fields.specs.declared.JobParts.{JobParts}
+use Rattle.jobs.specs.Chain.{chainImage, chainScale, chainFloor}
+use Rattle.jobs.specs.Apply.{ChainAppliable}
 use Rattle.jobs.specs.Job.{judgeFields, jobImages, acceptedAnswer}
-use Rattle.jobs.specs.Record.{fieldsRead, stepsIn}
-use Rattle.jobs.specs.declared.JobRead.{JobRead}
 use Rattle.jobs.proofs.Chains.{chain-promise}
-use Rattle.jobs.proofs.Judged.{JobFine, job-fine, kind-read, sizes-read, steps-read}
+use Rattle.jobs.proofs.Judged.{JobFine, job-fine}
 
-module _ (job : List ℕ) (r : JobRead) (accepted : judgeFields (fieldsRead job r) .number ≡ 0) (c : ℕ) (capacity-is : c ≡ jobCapacity (fieldsRead job r)) where
-  fine : JobFine (fieldsRead job r)
-  fine = job-fine (fieldsRead job r) accepted
+module _ (job : List ℕ) (fields : List Field) (parts : JobParts) (h : PartsOf job fields parts) (accepted : judgeFields fields .number ≡ 0) where
+  fine : JobFine fields
+  fine = job-fine fields accepted
 
-  pub capacity-bounded : (1 ≤ c) × (c ≤ limit)
-  capacity-bounded = (omega (arith, fine .capacity-positive, capacity-is), omega (arith, fine .capacity-within-limit, capacity-is))
+  promise : StepPromise (chainImage (jobCapacity fields) (jobSteps fields)) (jobCapacity fields) (chainScale (jobCapacity fields) (jobSteps fields))
+  promise = chain-promise (jobSteps fields) (jobCapacity fields) (fine .capacity-positive) (fine .capacity-within-limit) (fine .chain)
 
-  pub chain-in : ChainAccepted c (stepsIn job (r .steps))
-  chain-in = rw (capacity-is, ← (steps-read job r)) (fine .chain)
+  module _ (decoded : List ℕ) (decoded-is : decoded ≡ words (spanBytes job (parts .sizes))) where
+    pub appliable : ChainAppliable (parts .capacity) (stepsIn job (parts .steps)) decoded
+    appliable =
+        rw (h .capacity-is, h .steps-are, decoded-is, h .sizes-are)
+        (record { positive = fine .capacity-positive; within-limit = fine .capacity-within-limit; accepted = fine .chain; within = fine .within-capacity })
 
-  promise : StepPromise (chainImage c (stepsIn job (r .steps))) c (chainScale c (stepsIn job (r .steps)))
-  promise = chain-promise (stepsIn job (r .steps)) c (capacity-bounded .0) (capacity-bounded .1) chain-in
-
-  module _ (decoded : List ℕ) (decoded-is : decoded ≡ words (fieldValue (drop 11 job))) where
-    sizes-are : decoded ≡ jobSizes (fieldsRead job r)
-    sizes-are = decoded-is ∙ sym (sizes-read job r)
-
-    pub decoded-within : (i : ℕ) → i < length decoded → getD decoded i 0 ≤ c
-    decoded-within = rw (sizes-are, capacity-is) (fine .within-capacity)
-
-    module _ (images : List ℕ) (mapped : images ≡ map (chainImage c (stepsIn job (r .steps))) decoded) where
-      pub images-are : images ≡ jobImages (fieldsRead job r)
+    module _ (images : List ℕ) (mapped : images ≡ map (chainImage (parts .capacity) (stepsIn job (parts .steps))) decoded) where
+      pub images-are : images ≡ jobImages fields
       unfolding jobImages
-      images-are = mapped ∙ rw (sizes-are, capacity-is, steps-read job r)
+      images-are = mapped ∙ rw (h .capacity-is, h .steps-are, decoded-is, h .sizes-are)
 
-      count : length images ≡ length (jobSizes (fieldsRead job r))
-      count = ap length mapped ∙ length-map decoded (chainImage c (stepsIn job (r .steps))) ∙ ap length sizes-are
+      count : length images ≡ length (jobSizes fields)
+      count = ap length mapped ∙ length-map decoded (chainImage (parts .capacity) (stepsIn job (parts .steps))) ∙ ap length (decoded-is ∙ h .sizes-are)
 
-      module _ (scale : ℕ) (scale-is : scale ≡ chainScale c (stepsIn job (r .steps))) where
-        whole-scale : scale ≡ chainScale (jobCapacity (fieldsRead job r)) (jobSteps (fieldsRead job r))
-        whole-scale = scale-is ∙ rw (capacity-is, steps-read job r)
+      module _ (scale : ℕ) (scale-is : scale ≡ chainScale (jobCapacity fields) (jobSteps fields)) where
+        pub roundable : (sum : ℕ) → sum ≤ mostSizes * 2 ^ 32 → (0 < scale) × (sum + scale < 2 ^ 64)
+        roundable sum l = (omega (arith, promise .scale-positive), omega (arith, promise .scale-within-limit))
 
-        pub floor-answer : (sum floor : ℕ) → getD job 3 0 ≡ 1 → (sum ≡ total images) × (sum ≤ 2048 * 4294967296) → floor ≡ quotientUp sum scale → record { number = 0; n = length images; floor = floor; sum = sum; scale = scale; step = 0; length = 0 } ≡ acceptedAnswer (fieldsRead job r)
+        pub floor-answer : parts .kind ≡ 1 → (sum floor : ℕ) → sum ≡ total images → floor ≡ (sum up scale) → record { number = 0; n = length images; floor = floor; sum = sum; scale = scale; step = 0; length = 0 } ≡ acceptedAnswer fields
         unfolding acceptedAnswer chainFloor jobImages
-        floor-answer sum floor kind is rounded =
-            let whole : sum ≡ total (jobImages (fieldsRead job r)) = is .0 ∙ ap total images-are in
-            let rounds : floor ≡ sum up scale = rounded ∙ quotient-up-is scale (omega (arith, promise .scale-positive, scale-is)) sum (omega (arith, is .1, promise .scale-within-limit, scale-is)) in
-            rw (eq-eqb (jobKind (fieldsRead job r)) 1 (kind-read job r ∙ kind), count, rounds, whole, whole-scale)
+        floor-answer kind sum floor is rounded =
+            let whole : sum ≡ total (jobImages fields) = is ∙ ap total images-are in
+            rw (eq-eqb (jobKind fields) 1 (sym (h .kind-is) ∙ kind), count, rounded, whole, scale-is)
 
-        pub cut-answer : (getD job 3 0 ≡ 1 → ⊥) → record { number = 0; n = length images; floor = 0; sum = 0; scale = scale; step = 0; length = 0 } ≡ acceptedAnswer (fieldsRead job r)
+        pub cut-answer : (parts .kind ≡ 1 → ⊥) → record { number = 0; n = length images; floor = 0; sum = 0; scale = scale; step = 0; length = 0 } ≡ acceptedAnswer fields
         unfolding acceptedAnswer
-        cut-answer kind = rw (ne-eqb (jobKind (fieldsRead job r)) 1 (λ one. kind (sym (kind-read job r) ∙ one)), count, whole-scale)
+        cut-answer kind = rw (ne-eqb (jobKind fields) 1 (λ one. kind (h .kind-is ∙ one)), count, scale-is)

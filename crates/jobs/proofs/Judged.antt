@@ -3,26 +3,23 @@ use mathlib.Core.Path.{_≡_, refl, ap, sym, _∙_}
 use mathlib.Core.Bool.{Bool, true, false, cond}
 use mathlib.Core.List.{List, [], _∷_}
 use mathlib.Core.Logic.{_⊎_, ⊎-elim}
-use Prim.Native.Nat.{ℕ, suc, _+_, _-_, _≤_, _<_}
+use Prim.Native.Nat.{ℕ, suc, _-_, _≤_, _<_}
 use native.Mathlib.Nat.{eq-zero-or-pos}
 use native.Mathlib.Omega.{arith}
 use borrow.Author.Tests.{eq-eqb, ne-eqb}
 use lib.Dec.{eqb}
-use lib.ListN.{length, getD, take, drop}
-use lib.Seq.{getD-take, getD-drop}
+use lib.ListN.{length, getD}
 use Rattle.functions.specs.Words.{limit, capacityFits}
 use Rattle.functions.proofs.Legal.{passed, capacity-bounds, family-refusal-most}
 use Rattle.tables.specs.Table.{tableCapacity, counterexample}
 use Rattle.tables.specs.Check.{tableRefusal}
 use Rattle.tables.specs.Promise.{Overshoots}
 use Rattle.tables.proofs.Outcome.{checked-overshoots}
-use Rattle.jobs.specs.Chain.{Step, onFamily, onTable, capacityRefusal, stepScale, stepRefusal, ChainAccepted}
-use Rattle.jobs.specs.Fields.{fieldValue, Field, word, words, fieldAt, jobKind, jobCapacity, jobSizes, jobSteps}
+use Rattle.fields.specs.Parts.{Field, Step, onFamily, onTable, jobKind, jobCapacity, jobSizes, jobSteps}
+use Rattle.jobs.specs.Chain.{capacityRefusal, stepScale, stepRefusal, ChainAccepted}
 use Rattle.jobs.specs.Sizes.{isKind, leastOf, sizesWithin, listRefusal}
 use Rattle.jobs.specs.Judge.{stepList, Refusal, judgeChain, stepEntries, entriesAt}
 use Rattle.jobs.specs.Job.{plain, judgeFields}
-use Rattle.jobs.specs.Record.{fieldsRead, stepsIn}
-use Rattle.jobs.specs.declared.JobRead.{JobRead}
 use Rattle.jobs.proofs.SizeTests.{sizes-most}
 
 chain-accepted : (steps : List Step) (c k : ℕ) → judgeChain c k steps .number ≡ 0 → ChainAccepted c steps
@@ -111,24 +108,3 @@ module _ (fields : List Field) where
             within-capacity = sizes-most (leastOf (jobKind fields)) (jobCapacity fields) (jobSizes fields) (three .0);
             chain = chain-accepted (jobSteps fields) (jobCapacity fields) 0 (sym (ap (λ (r : Refusal). r .number) (list-passed none)) ∙ e);
           }
-
--- kind, capacity, sizes and steps of a job that was read stand at their places
-module _ (job : List ℕ) (r : JobRead) where
-  part : (n at i : ℕ) → i < n → getD (take n (drop at job)) i 0 ≡ getD job (at + i) 0
-  part n at i l = getD-take n (drop at job) i 0 l ∙ getD-drop at job i 0
-
-  pub kind-read : jobKind (fieldsRead job r) ≡ getD job 3 0
-  unfolding jobKind fieldAt fieldsRead
-  kind-read = part 1 3 0 (omega arith)
-
-  pub capacity-read : jobCapacity (fieldsRead job r) ≡ word job 7
-  unfolding jobCapacity fieldAt fieldsRead word
-  capacity-read = omega (arith, part 4 7 0 (omega arith), part 4 7 1 (omega arith), part 4 7 2 (omega arith), part 4 7 3 (omega arith))
-
-  pub sizes-read : jobSizes (fieldsRead job r) ≡ words (fieldValue (drop 11 job))
-  unfolding jobSizes fieldAt fieldsRead
-  sizes-read = refl
-
-  pub steps-read : jobSteps (fieldsRead job r) ≡ stepsIn job (r .steps)
-  unfolding jobSteps fieldsRead stepsIn
-  steps-read = refl

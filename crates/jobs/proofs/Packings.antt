@@ -2,19 +2,22 @@
 use mathlib.Core.Path.{_≡_, refl, ap, sym, _∙_}
 use mathlib.Core.Bool.{Bool, true, false, cond, _||_, or-true, false≢true}
 use mathlib.Core.List.{List, [], _∷_, _++_, map, map-id}
-use mathlib.Core.Logic.{_⊎_, inl, inr, ⊎-elim}
-use Prim.Native.Nat.{ℕ, zero, suc, _+_, _*_, _≤_, _<_, zero-le}
+use mathlib.Core.Logic.{_⊎_, inl, inr}
+use Prim.Native.Nat.{ℕ, _+_, _≤_}
 use native.Mathlib.Nat.{le-trans}
 use native.Mathlib.Omega.{arith}
 use borrow.Author.Tests.{eqb-true, eq-eqb}
 use lib.Dec.{eqb}
-use lib.ListN.{length, replicate, length-map}
-use Rattle.functions.specs.Words.{limit, total, DualFeasible}
+use lib.ListN.{length, replicate, length-map, getD}
+use Rattle.functions.specs.Words.{limit, total}
 use Rattle.functions.specs.Promise.{StepPromise}
 use Rattle.functions.proofs.Superadditive.{total-append}
+use Rattle.functions.proofs.Totals.{total-none, total-cons, total-plus, total-repeated, feasible-images}
 use Rattle.functions.proofs.Mapped.{map-append}
 use Rattle.functions.proofs.Quotient.{up-least}
-use Rattle.jobs.specs.Chain.{Step, chainImage, chainScale, ChainAccepted, chainFloor}
+use Rattle.functions.proofs.Summed.{total-most}
+use Rattle.fields.specs.Parts.{Step}
+use Rattle.jobs.specs.Chain.{chainImage, chainScale, ChainAccepted, chainFloor}
 use Rattle.jobs.specs.Packing.{load, Fits, member, distinct, binsUsed, weighted, ChainPromise}
 use Rattle.jobs.proofs.Chains.{chain-promise}
 
@@ -26,22 +29,17 @@ select b (x ∷ xs) (a ∷ bins) = cond (eqb a b) (x ∷ select b xs bins) (sele
 
 -- the load of the images is the total of the images of those sizes
 load-of : (f : ℕ → ℕ) (b : ℕ) (xs bins : List ℕ) → load b (map f xs) bins ≡ total (map f (select b xs bins))
-unfolding load select total
-load-of f b [] bins = refl
-load-of f b (x ∷ xs) [] = refl
+unfolding load select
+load-of f b [] bins = sym total-none
+load-of f b (x ∷ xs) [] = sym total-none
 load-of f b (x ∷ xs) (a ∷ bins) = go (eqb a b) (load-of f b xs bins)
   where
     go : (test : Bool) → load b (map f xs) bins ≡ total (map f (select b xs bins)) → cond test (f x) 0 + load b (map f xs) bins ≡ total (map f (cond test (x ∷ select b xs bins) (select b xs bins)))
-    go true e = omega (arith, e)
+    go true e = omega (arith, e, total-cons (f x) (map f (select b xs bins)))
     go false e = omega (arith, e)
 
 load-is : (b : ℕ) (xs bins : List ℕ) → load b xs bins ≡ total (select b xs bins)
 load-is b xs bins = simp map-id at (load-of (λ x. x) b xs bins)
-
-total-plus : (f g : ℕ → ℕ) (ws : List ℕ) → total (map (λ w. f w + g w) ws) ≡ total (map f ws) + total (map g ws)
-unfolding total
-total-plus f g [] = refl
-total-plus f g (w ∷ ws) = omega (arith, total-plus f g ws)
 
 either : (a b : Bool) → a || b ≡ true → (a ≡ true) ⊎ (b ≡ true)
 either true b e = inl refl
@@ -49,9 +47,9 @@ either false b e = inr e
 
 -- a bin of the list gets the size
 counted : (a x : ℕ) (ws : List ℕ) → member a ws ≡ true → x ≤ total (map (λ w. cond (eqb a w) x 0) ws)
-unfolding member total
+unfolding member
 counted a x [] e = absurd (false≢true e)
-counted a x (w ∷ ws) e = go (either (eqb w a) (member a ws) e) (counted a x ws)
+counted a x (w ∷ ws) e = rw (total-cons _ _) (go (either (eqb w a) (member a ws) e) (counted a x ws))
   where
     go : (eqb w a ≡ true) ⊎ (member a ws ≡ true) → (member a ws ≡ true → x ≤ total (map (λ v. cond (eqb a v) x 0) ws)) → x ≤ cond (eqb a w) x 0 + total (map (λ v. cond (eqb a v) x 0) ws)
     go (inl here) rest = rw (eq-eqb a w (sym (eqb-true w a here))) (omega arith)
@@ -62,13 +60,13 @@ Covers : List ℕ → List ℕ → Type 0
 Covers ws bins = (b : ℕ) → member b bins ≡ true → member b ws ≡ true
 
 covered : (ws xs bins : List ℕ) → length bins ≡ length xs → Covers ws bins → total xs ≤ total (map (λ w. load w xs bins) ws)
-unfolding load total member Covers
-covered ws [] bins l c = zero-le
+unfolding load member Covers
+covered ws [] bins l c = omega (arith, total-none)
 covered ws (x ∷ xs) [] l c = absurd (omega arith)
 covered ws (x ∷ xs) (a ∷ bins) l c =
     let rest = covered ws xs bins (omega arith) (λ b e. c b (rw e (or-true (eqb a b)))) in
     let here = counted a x ws (c a (rw (eq-eqb a a refl))) in
-    omega (arith, rest, here, total-plus (λ w. cond (eqb a w) x 0) (λ w. load w xs bins) ws)
+    omega (arith, rest, here, total-cons x xs, total-plus (λ w. cond (eqb a w) x 0) (λ w. load w xs bins) ws)
 
 distinct-covers : (bins : List ℕ) → Covers (distinct bins) bins
 unfolding Covers member distinct
@@ -81,51 +79,39 @@ distinct-covers (a ∷ bins) b e = go (member a bins) refl (either (eqb a b) (me
     go false is (inl same) rest = rw same
     go false is (inr later) rest = rw (rest later) (or-true (eqb a b))
 
--- each bin's share is at most e
-shares : (g : ℕ → ℕ) (e : ℕ) (ws : List ℕ) → ((w : ℕ) → g w ≤ e) → total (map g ws) ≤ length ws * e
-unfolding total
-shares g e [] h = zero-le
-shares g e (w ∷ ws) h = omega (arith, h w, shares g e ws h)
-
 -- a row with each coefficient as often as its count says
 expand : List ℕ → List ℕ → List ℕ
 expand [] row = []
 expand (n ∷ counts) [] = []
 expand (n ∷ counts) (a ∷ row) = replicate n a ++ expand counts row
 
-repeated : (f : ℕ → ℕ) (n a : ℕ) → total (map f (replicate n a)) ≡ n * f a
-unfolding total
-repeated f zero a = omega arith
-repeated f (suc n) a = omega (arith, repeated f n a)
-
 expanded : (f : ℕ → ℕ) (counts row : List ℕ) → total (map f (expand counts row)) ≡ weighted counts (map f row)
-unfolding total expand weighted
-expanded f [] row = refl
-expanded f (n ∷ counts) [] = refl
+unfolding expand weighted
+expanded f [] row = total-none
+expanded f (n ∷ counts) [] = total-none
 expanded f (n ∷ counts) (a ∷ row) =
     ap total (map-append f (replicate n a) (expand counts row))
     ∙ total-append (map f (replicate n a)) (map f (expand counts row))
-    ∙ omega (arith, repeated f n a, expanded f counts row)
+    ∙ omega (arith, total-repeated f n a, expanded f counts row)
 
 module _ (c : ℕ) (steps : List Step) (l : 1 ≤ c) (m : c ≤ limit) (a : ChainAccepted c steps) where
   chain : StepPromise (chainImage c steps) c (chainScale c steps)
   chain = chain-promise steps c l m a
 
   safe : (sizes bins : List ℕ) → Fits c sizes bins → chainFloor c steps sizes ≤ binsUsed bins
-  unfolding chainFloor binsUsed DualFeasible
+  unfolding chainFloor binsUsed
   safe sizes bins h =
       let f = chainImage c steps in
-      let share : (b : ℕ) → load b (map f sizes) bins ≤ chainScale c steps = λ b. rw (load-of f b sizes bins) (chain .dual-feasible (select b sizes bins) (rw (load-is b sizes bins) at (h .within b))) in
+      let share : (b : ℕ) → load b (map f sizes) bins ≤ chainScale c steps = λ b. rw (load-of f b sizes bins) (feasible-images chain (select b sizes bins) (rw (load-is b sizes bins) at (h .within b))) in
       up-least (chainScale c steps) (chain .scale-positive) (total (map f sizes)) (length (distinct bins))
       (le-trans
       (covered (distinct bins) (map f sizes) bins (h .one-each ∙ sym (length-map sizes f)) (distinct-covers bins))
-      (shares (λ b. load b (map f sizes) bins) (chainScale c steps) (distinct bins) share))
+      (total-most (λ b. load b (map f sizes) bins) (chainScale c steps) (distinct bins) (λ i l. share (getD (distinct bins) i 0))))
 
   holds : (row counts : List ℕ) → length counts ≡ length row → weighted counts row ≤ c → weighted counts (map (chainImage c steps) row) ≤ chainScale c steps
-  unfolding DualFeasible
   holds row counts e h =
       let plain : total (expand counts row) ≡ weighted counts row = simp map-id at (expanded (λ x. x) counts row) in
-      rw (← (expanded (chainImage c steps) counts row)) (chain .dual-feasible (expand counts row) (omega (arith, plain, h)))
+      rw (← (expanded (chainImage c steps) counts row)) (feasible-images chain (expand counts row) (omega (arith, plain, h)))
 
   -- P3
   pub chain-is-safe : ChainPromise c steps

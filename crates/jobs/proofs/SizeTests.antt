@@ -9,7 +9,6 @@ use borrow.Author.Tests.{leb-true, le-leb, lt-leb}
 use lib.Dec.{leb}
 use lib.ListN.{length, getD, drop, drop-of-length-le}
 use lib.Seq.{drop-cons}
-use Rattle.functions.specs.Words.{total}
 use Rattle.jobs.specs.Sizes.{sizesWithin}
 
 -- the size that stands at i decides with those behind it
@@ -18,22 +17,24 @@ module _ (least c : ℕ) (xs : List ℕ) (i x : ℕ) (x-is : x ≡ getD xs i 0) 
   unfolding sizesWithin
   sizes-next = ap (sizesWithin least c) (drop-cons xs i 0 l) ∙ rw x-is
 
+  pub size-fails : leb least x && leb x c ≡ false → sizesWithin least c (drop i xs) ≡ false
+  size-fails e = sizes-next ∙ rw e
+
+  pub size-fits : leb least x && leb x c ≡ true → sizesWithin least c (drop i xs) ≡ sizesWithin least c (drop (i + 1) xs)
+  size-fits e = sizes-next ∙ rw (e, add-one)
+
   pub size-below : x < least → sizesWithin least c (drop i xs) ≡ false
-  size-below h = sizes-next ∙ rw (lt-leb least x h)
+  size-below h = size-fails (rw (lt-leb least x h))
 
   pub size-above : least ≤ x → c < x → sizesWithin least c (drop i xs) ≡ false
-  size-above h k = sizes-next ∙ rw (le-leb least x h, lt-leb x c k)
+  size-above h k = size-fails (rw (le-leb least x h, lt-leb x c k))
 
   pub size-passes : least ≤ x → x ≤ c → sizesWithin least c (drop i xs) ≡ sizesWithin least c (drop (i + 1) xs)
-  size-passes h k = sizes-next ∙ rw (le-leb least x h, le-leb x c k, add-one)
+  size-passes h k = size-fits (rw (le-leb least x h, le-leb x c k))
 
 pub sizes-passed : (least c : ℕ) (xs : List ℕ) (i : ℕ) → length xs ≤ i → sizesWithin least c (drop i xs) ≡ true
 unfolding sizesWithin
 sizes-passed least c xs i l = ap (sizesWithin least c) (drop-of-length-le xs {i = i} l)
-
-pub total-next : (xs : List ℕ) (i : ℕ) → i < length xs → total (drop i xs) ≡ getD xs i 0 + total (drop (suc i) xs)
-unfolding total
-total-next xs i l = ap total (drop-cons xs i 0 l)
 
 -- sizes that pass are within the capacity
 pub sizes-most : (least c : ℕ) (sizes : List ℕ) → sizesWithin least c sizes ≡ true → (i : ℕ) → i < length sizes → getD sizes i 0 ≤ c

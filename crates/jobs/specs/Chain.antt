@@ -2,18 +2,15 @@
 use mathlib.Core.Bool.{cond}
 use mathlib.Core.Path.{_≡_}
 use mathlib.Core.List.{List, [], _∷_, map}
-use Prim.Native.Nat.{ℕ, _≤_}
+use Prim.Native.Nat.{ℕ}
 use lib.Dec.{eqb}
 use lib.ListN.{length}
-use Rattle.functions.specs.Words.{limit, total}
+use Rattle.functions.specs.Words.{total}
 use Rattle.functions.specs.Families.{_up_, familyImage, familyScale}
 use Rattle.functions.specs.Image.{familyRefusal}
 use Rattle.tables.specs.Table.{entry, tableCapacity, tableScale}
 use Rattle.tables.specs.Check.{tableRefusal}
-
-pub data Step : Type 0 where
-  onFamily : ℕ → ℕ → ℕ → Step
-  onTable : List ℕ → Step
+use Rattle.fields.specs.Parts.{Step, onFamily, onTable}
 
 -- a step's function at capacity c, its scale, and the number that refuses it or 0
 unfoldable pub stepImage : ℕ → Step → ℕ → ℕ

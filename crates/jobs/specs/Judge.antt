@@ -1,11 +1,14 @@
 -- The steps of a job judged in order, document 01, "Operations and what they refuse", Job.
 use mathlib.Core.Bool.{cond}
-use mathlib.Core.List.{List, [], _∷_}
-use Prim.Native.Nat.{ℕ, suc, _-_}
+use mathlib.Core.Path.{_≡_}
+use mathlib.Core.List.{List, [], _∷_, _++_}
+use Prim.Native.Nat.{ℕ, suc, _-_, _≤_}
 use lib.Dec.{eqb}
-use lib.ListN.{length, getD}
+use lib.ListN.{length, getD, drop}
 use Rattle.tables.specs.Table.{counterexample}
-use Rattle.jobs.specs.Chain.{Step, onFamily, onTable, stepScale, stepRefusal, chainScale}
+use Rattle.tables.specs.Check.{mostEntries}
+use Rattle.fields.specs.Parts.{Step, onFamily, onTable}
+use Rattle.jobs.specs.Chain.{stepScale, stepRefusal, chainScale}
 use Rattle.jobs.specs.declared.StepAnswer.{StepAnswer}
 use Rattle.jobs.specs.declared.Verdict.{Verdict}
 
@@ -22,6 +25,11 @@ stepAnswer c s =
       scale = cond (eqb (stepRefusal c s) 0) (stepScale c s) 0;
       length = length (stepList (stepRefusal c s) s);
     }
+
+-- the step judged, with the list buffer afterwards
+pub record StepJudged (c : ℕ) (s : Step) (list : List ℕ) (answer : StepAnswer) (list′ : List ℕ) : Type 0 where
+  pub answer-is : answer ≡ stepAnswer c s
+  pub list-is : list′ ≡ stepList (answer .number) s ++ drop (answer .length) list
 
 -- what refuses a job: a number, the step's place where a step is refused, and its list
 pub record Refusal : Type 0 where
@@ -54,3 +62,13 @@ verdictOf c steps =
       scale = cond (eqb (judgeChain c 0 steps .number) 0) (chainScale c steps) 0;
       length = length (judgeChain c 0 steps .list);
     }
+
+-- the chain judged, with the list buffer afterwards
+pub record ChainJudged (c : ℕ) (steps : List Step) (list : List ℕ) (verdict : Verdict) (list′ : List ℕ) : Type 0 where
+  pub verdict-is : verdict ≡ verdictOf c steps
+  pub list-is : list′ ≡ judgeChain c 0 steps .list ++ drop (verdict .length) list
+
+-- buffers that a table check of any length can use
+pub record CheckRoom (working list : List ℕ) : Type 0 where
+  pub for-bests : mostEntries ≤ length working
+  pub for-list : mostEntries - 1 ≤ length list

@@ -1,11 +1,12 @@
 -- What a floor and a cut are safe against: packings of a list of sizes into bins (document 01's assignments and windows), and counts of a row.
-use mathlib.Core.Bool.{Bool, true, false, cond, _||_}
+use mathlib.Core.Bool.{Bool, false, cond, _||_}
 use mathlib.Core.Path.{_≡_}
 use mathlib.Core.List.{List, [], _∷_, map}
 use Prim.Native.Nat.{ℕ, _+_, _*_, _≤_}
 use lib.Dec.{eqb}
 use lib.ListN.{length}
-use Rattle.jobs.specs.Chain.{Step, chainImage, chainScale, ChainAccepted, chainFloor}
+use Rattle.fields.specs.Parts.{Step}
+use Rattle.jobs.specs.Chain.{chainImage, chainScale, chainFloor}
 
 -- the total of the sizes that a packing puts into bin b; the packing has a bin for each size
 unfoldable pub load : ℕ → List ℕ → List ℕ → ℕ

@@ -1,20 +1,39 @@
 // A job that was read: judged, and only then applied.
 use crate::JobAnswer;
-use crate::JobRead;
 use crate::LIST_PLACES;
-use crate::MOST_BYTES;
-use crate::MOST_SIZES;
 use crate::apply;
-use crate::field;
+use crate::judge;
 use crate::list;
 ghost use mathlib.Core.Path.{_≡_};
-ghost use Prim.Native.Nat.{_+_, _*_, _%_, _≤_};
-ghost use lib.ListN.{length, getD, drop};
+ghost use Prim.Native.Nat.{_≤_};
+ghost use lib.ListN.{length};
+ghost use Rattle.fields.specs.Bytes.{words};
+ghost use Rattle.fields.specs.Parts.{jobCapacity, jobSteps};
+ghost use Rattle.fields.specs.Grammar.{mostSizes};
+ghost use Rattle.fields.specs.Record.{SpanWithin, spanBytes, PartsOf};
 ghost use Rattle.jobs.specs.Chain.{chainScale};
-ghost use Rattle.jobs.specs.Fields.{word, words, fieldValue, jobCapacity};
-ghost use Rattle.jobs.specs.Job.{judgeFields, jobImages, acceptedAnswer, bufferRefusal};
-ghost use Rattle.jobs.specs.Record.{fieldsRead, ReadWithin, stepsIn};
+ghost use Rattle.jobs.specs.Job.{fieldsIn, judgeFields, jobImages, acceptedAnswer, bufferRefusal, Answered};
+ghost use Rattle.jobs.specs.Judge.{CheckRoom};
 ghost use Rattle.jobs.specs.Sizes.{isKind, leastOf, listRefusal};
+
+// Refusals 12 and 7.
+pub(crate) fn refuse_buffers(bytes: usize, images: usize, working: usize, list: usize) -> u64
+    ensures { λ r. ⌜ r ≡ bufferRefusal bytes images working list ⌝ }
+{
+    if fields::MOST_BYTES < bytes {
+        return 12;
+    }
+    if images < fields::MOST_SIZES {
+        return 7;
+    }
+    if working < tables::MOST_ENTRIES {
+        return 7;
+    }
+    if list < LIST_PLACES {
+        return 7;
+    }
+    0
+}
 
 fn is_kind(kind: u8) -> bool
     ensures { λ r. ⌜ r ≡ isKind kind ⌝ }
@@ -34,13 +53,11 @@ fn least_of(kind: u8) -> u64
     0
 }
 
-// Refusals 16, 1 and 17: kind at place 3, capacity at 7, the field of the sizes at 11.
-pub(crate) fn refuse_list(job: &[u8], sizes: usize) -> u64
-    requires { ⌜ (11 ≤ length (now job)) × (length (fieldValue (drop 11 (now job))) ≡ sizes) × (sizes % 4 ≡ 0) ⌝ }
-    ensures { λ r. ⌜ r ≡ listRefusal (getD (now (job .entry)) 3 0) (word (now (job .entry)) 7) (words (fieldValue (drop 11 (now (job .entry))))) ⌝ }
+// Refusals 16, 1 and 17.
+fn refuse_list(job: &[u8], kind: u8, capacity: u64, sizes: fields::Span) -> u64
+    requires { ⌜ SpanWithin (now job) sizes ⌝ }
+    ensures { λ r. ⌜ r ≡ listRefusal kind capacity (words (spanBytes (now (job .entry)) sizes)) ⌝ }
 {
-    let kind = job[3];
-    let capacity = field::word_at(job, 7);
     if !is_kind(kind) {
         return 16;
     }
@@ -48,53 +65,23 @@ pub(crate) fn refuse_list(job: &[u8], sizes: usize) -> u64
         return 1;
     }
     let least = least_of(kind);
-    let value = field::value_at(job, 11);
-    if !list::sizes_within(value, sizes / 4, least, capacity) {
+    let n = sizes.n;
+    if !list::sizes_within(fields::span_bytes(job, sizes), n, least, capacity) {
         return 17;
     }
     0
 }
 
-// The images and the answer of an accepted job, whose numbers of sizes and places of `images` are the same.
-pub(crate) fn finish(
-    job: &[u8],
-    read: JobRead,
-    capacity: u64,
-    scale: u64,
-    images: &mut [u32],
-) -> JobAnswer
-    requires { ⌜ (ReadWithin (now job) read) × (judgeFields (fieldsRead (now job) read) .number ≡ 0) × (capacity ≡ jobCapacity (fieldsRead (now job) read)) × (scale ≡ chainScale capacity (stepsIn (now job) (read .steps))) × (read .sizes ≡ 4 * length (now images)) ⌝ }
-    ensures { λ r. ⌜ (r ≡ acceptedAnswer (fieldsRead (now (job .entry)) read)) × (now (images .exit) ≡ jobImages (fieldsRead (now (job .entry)) read)) ⌝ }
-{
-    let steps = read.steps;
-    list::decode_words(field::value_at(job, 11), images);
-    apply::apply_steps(job, steps, capacity, images);
-    let n = images.len() as u64;
-    if job[3] == 1 {
-        let sum = list::sum_of(images);
-        return JobAnswer {
-            number: 0,
-            n,
-            floor: functions::quotient_up(sum, scale),
-            sum,
-            scale,
-            step: 0,
-            length: 0,
-        };
-    }
-    JobAnswer {
-        number: 0,
-        n,
-        floor: 0,
-        sum: 0,
-        scale,
-        step: 0,
-        length: 0,
-    }
-}
-
 pub(crate) fn refused(number: u64, step: u64, length: u64) -> JobAnswer
-    ensures { λ r. ⌜ r ≡ record { number = number; n = 0; floor = 0; sum = 0; scale = 0; step = step; length = length } ⌝ }
+    ensures { λ r. ⌜ r ≡ record {
+      number = number;
+      n = 0;
+      floor = 0;
+      sum = 0;
+      scale = 0;
+      step = step;
+      length = length;
+    } ⌝ }
 {
     JobAnswer {
         number,
@@ -107,21 +94,70 @@ pub(crate) fn refused(number: u64, step: u64, length: u64) -> JobAnswer
     }
 }
 
-// Refusals 12 and 7.
-pub(crate) fn refuse_buffers(bytes: usize, images: usize, working: usize, list: usize) -> u64
-    ensures { λ r. ⌜ r ≡ bufferRefusal bytes images working list ⌝ }
+fn accepted(n: u64, floor: u64, sum: u64, scale: u64) -> JobAnswer
+    ensures { λ r. ⌜ r ≡ record {
+      number = 0;
+      n = n;
+      floor = floor;
+      sum = sum;
+      scale = scale;
+      step = 0;
+      length = 0;
+    } ⌝ }
 {
-    if MOST_BYTES < bytes {
-        return 12;
+    JobAnswer {
+        number: 0,
+        n,
+        floor,
+        sum,
+        scale,
+        step: 0,
+        length: 0,
     }
-    if images < MOST_SIZES {
-        return 7;
+}
+
+// The images and the answer of an accepted job; `images` has as many places as the job has sizes.
+fn finish(job: &[u8], parts: fields::JobParts, scale: u64, images: &mut [u32]) -> JobAnswer
+    requires { ⌜ PartsOf (now job) (fieldsIn (now job)) parts × (judgeFields (fieldsIn (now job)) .number ≡ 0)
+        × (scale ≡ chainScale (jobCapacity (fieldsIn (now job))) (jobSteps (fieldsIn (now job))))
+        × (length (now images) ≡ parts .sizes .n) ⌝ }
+    ensures { λ r. ⌜ (r ≡ acceptedAnswer (fieldsIn (now (job .entry))))
+        × (now (images .exit) ≡ jobImages (fieldsIn (now (job .entry)))) ⌝ }
+{
+    let steps = parts.steps;
+    fields::words::decode_words(fields::span_bytes(job, parts.sizes), images);
+    apply::apply_steps(job, steps, parts.capacity, images);
+    let n = images.len() as u64;
+    if parts.kind == 1 {
+        let sum = list::sum_of(images);
+        return accepted(n, functions::round_up(sum, scale), sum, scale);
     }
-    if working < tables::MOST_ENTRIES {
-        return 7;
+    accepted(n, 0, 0, scale)
+}
+
+// The job judged by its parts, and applied where nothing refuses it.
+pub(crate) fn answer_parts(
+    job: &[u8],
+    parts: fields::JobParts,
+    images: &mut [u32],
+    working: &mut [u64],
+    list: &mut [u32],
+) -> JobAnswer
+    requires { ⌜ PartsOf (now job) (fieldsIn (now job)) parts × (mostSizes ≤ length (now images))
+        × CheckRoom (now working) (now list) ⌝ }
+    ensures answered { λ r. ⌜ Answered (judgeFields (fieldsIn (now (job .entry)))) (fieldsIn (now (job .entry)))
+        (now (images .entry)) (now (list .entry)) r (now (images .exit)) (now (list .exit)) ⌝ }
+    ensures working { λ _. ⌜ length (now (working .exit)) ≡ length (now (working .entry)) ⌝ }
+{
+    let number = refuse_list(job, parts.kind, parts.capacity, parts.sizes);
+    if number != 0 {
+        return refused(number, 0, 0);
     }
-    if list < LIST_PLACES {
-        return 7;
+    let steps = parts.steps;
+    let verdict = judge::judge_steps(job, steps, parts.capacity, working, list);
+    if verdict.number != 0 {
+        return refused(verdict.number, verdict.step, verdict.length);
     }
-    0
+    let n = parts.sizes.n;
+    finish(job, parts, verdict.scale, &mut images[..n])
 }

@@ -1,63 +1,61 @@
 // Accepted steps applied to the images, one after the other, in place.
-use crate::JobStep;
-use crate::JobSteps;
-use crate::field;
-use crate::list;
 ghost use mathlib.Core.Path.{_≡_};
-ghost use mathlib.Core.Bool.{true};
 ghost use mathlib.Core.List.{map};
-ghost use Prim.Native.Nat.{ℕ, _*_, _%_, _≤_, _<_};
-ghost use lib.ListN.{length, getD};
-ghost use Rattle.functions.specs.Words.{limit};
-ghost use Rattle.jobs.specs.Chain.{onFamily, onTable, stepImage, stepScale, stepRefusal, chainImage, ChainAccepted};
-ghost use Rattle.jobs.specs.Fields.{word, words, stepOf};
-ghost use Rattle.jobs.specs.Record.{fieldIn, StepWithin, StepsWithin, stepsIn};
+ghost use Prim.Native.Nat.{_*_, _≤_};
+ghost use lib.ListN.{length};
+ghost use Rattle.tables.specs.Table.{entry, tableScale};
+ghost use Rattle.tables.specs.Check.{mostEntries};
+ghost use Rattle.fields.specs.Bytes.{words};
+ghost use Rattle.fields.specs.Parts.{onFamily};
+ghost use Rattle.fields.specs.Record.{SpanWithin, spanBytes, stepIn, StepWithin, stepsIn, StepsWithin};
+ghost use Rattle.jobs.specs.Apply.{Appliable, Applied, ChainAppliable};
+ghost use Rattle.jobs.specs.Chain.{chainImage};
 
-fn apply_family(value: &[u8], capacity: u64, images: &mut [u32]) -> u64
-    requires { ⌜ (length (now value) ≡ 9) × (stepRefusal capacity (onFamily (getD (now value) 0 0) (word (now value) 1) (word (now value) 5)) ≡ 0) × ((i : ℕ) → i < length (now images) → getD (now images) i 0 ≤ capacity) ⌝ }
-    ensures { λ r. ⌜ (r ≡ stepScale capacity (onFamily (getD (now (value .entry)) 0 0) (word (now (value .entry)) 1) (word (now (value .entry)) 5))) × (now (images .exit) ≡ map (stepImage capacity (onFamily (getD (now (value .entry)) 0 0) (word (now (value .entry)) 1) (word (now (value .entry)) 5))) (now (images .entry))) ⌝ }
+fn apply_family(s: fields::JobStep, capacity: u64, images: &mut [u32]) -> u64
+    requires { ⌜ Appliable capacity (onFamily (s .family) (s .p) (s .q)) (now images) ⌝ }
+    ensures { λ r. ⌜ Applied capacity (onFamily (s .family) (s .p) (s .q))
+        (now (images .entry)) r (now (images .exit)) ⌝ }
 {
-    let p = field::word_at(value, 1);
-    let q = field::word_at(value, 5);
-    let mapped = functions::map_family(capacity, value[0], p, q, images);
-    mapped.scale
+    functions::map_family(capacity, s.family, s.p, s.q, images);
+    functions::scale_of(capacity, s.family, s.p, s.q)
 }
 
-fn apply_table_in(value: &[u8], table: &mut [u32], capacity: u64, images: &mut [u32]) -> u64
-    requires { ⌜ (length (now value) ≡ 4 * length (now table)) × (2 ≤ length (now table)) ⌝ }
-    ensures { λ r. ⌜ (r ≡ stepScale capacity (onTable (words (now (value .entry))))) × (now (images .exit) ≡ map (stepImage capacity (onTable (words (now (value .entry))))) (now (images .entry))) ⌝ }
+fn apply_table_in(bytes: &[u8], table: &mut [u32], images: &mut [u32]) -> u64
+    requires { ⌜ (length (now bytes) ≡ 4 * length (now table)) × (2 ≤ length (now table)) ⌝ }
+    ensures { λ r. ⌜ (r ≡ tableScale (words (now (bytes .entry))))
+        × (now (images .exit) ≡ map (entry (words (now (bytes .entry)))) (now (images .entry))) ⌝ }
 {
-    list::decode_words(value, table);
+    fields::words::decode_words(bytes, table);
     tables::map_table(table, images);
     let last = table.len() - 1;
     table[last] as u64
 }
 
-fn apply_table(value: &[u8], capacity: u64, images: &mut [u32]) -> u64
-    requires { ⌜ (8 ≤ length (now value)) × (length (now value) ≤ 8192) × (length (now value) % 4 ≡ 0) ⌝ }
-    ensures { λ r. ⌜ (r ≡ stepScale capacity (onTable (words (now (value .entry))))) × (now (images .exit) ≡ map (stepImage capacity (onTable (words (now (value .entry))))) (now (images .entry))) ⌝ }
+fn apply_table(job: &[u8], span: fields::Span, images: &mut [u32]) -> u64
+    requires { ⌜ SpanWithin (now job) span × (2 ≤ span .n) × (span .n ≤ mostEntries) ⌝ }
+    ensures { λ r. ⌜ (r ≡ tableScale (words (spanBytes (now (job .entry)) span)))
+        × (now (images .exit) ≡ map (entry (words (spanBytes (now (job .entry)) span))) (now (images .entry))) ⌝ }
 {
-    let n = value.len() / 4;
+    let n = span.n;
     let mut table = [0u32; tables::MOST_ENTRIES];
-    apply_table_in(value, &mut table[..n], capacity, images)
+    apply_table_in(fields::span_bytes(job, span), &mut table[..n], images)
 }
 
-// The step that stands at a place of the job.
-fn apply_at(job: &[u8], s: JobStep, capacity: u64, images: &mut [u32]) -> u64
-    requires { ⌜ (StepWithin (now job) s) × (stepRefusal capacity (stepOf (fieldIn (now job) s)) ≡ 0) × ((i : ℕ) → i < length (now images) → getD (now images) i 0 ≤ capacity) ⌝ }
-    ensures { λ r. ⌜ (r ≡ stepScale capacity (stepOf (fieldIn (now (job .entry)) s))) × (now (images .exit) ≡ map (stepImage capacity (stepOf (fieldIn (now (job .entry)) s))) (now (images .entry))) ⌝ }
+fn apply_step(job: &[u8], s: fields::JobStep, capacity: u64, images: &mut [u32]) -> u64
+    requires { ⌜ StepWithin (now job) s × Appliable capacity (stepIn (now job) s) (now images) ⌝ }
+    ensures { λ r. ⌜ Applied capacity (stepIn (now (job .entry)) s)
+        (now (images .entry)) r (now (images .exit)) ⌝ }
 {
-    let tag = s.tag;
-    let value = field::value_at(job, s.at);
-    if tag == 4 {
-        return apply_family(value, capacity, images);
+    if s.tag == 4 {
+        return apply_family(s, capacity, images);
     }
-    apply_table(value, capacity, images)
+    apply_table(job, s.table, images)
 }
 
-pub(crate) fn apply_steps(job: &[u8], steps: JobSteps, capacity: u64, images: &mut [u32])
-    requires { ⌜ (StepsWithin (now job) steps) × (ChainAccepted capacity (stepsIn (now job) steps)) × (1 ≤ capacity) × (capacity ≤ limit) × ((i : ℕ) → i < length (now images) → getD (now images) i 0 ≤ capacity) ⌝ }
-    ensures { λ _. ⌜ now (images .exit) ≡ map (chainImage capacity (stepsIn (now (job .entry)) steps)) (now (images .entry)) ⌝ }
+pub(crate) fn apply_steps(job: &[u8], steps: fields::JobSteps, capacity: u64, images: &mut [u32])
+    requires { ⌜ StepsWithin (now job) steps × ChainAppliable capacity (stepsIn (now job) steps) (now images) ⌝ }
+    ensures { λ _. ⌜ now (images .exit)
+        ≡ map (chainImage capacity (stepsIn (now (job .entry)) steps)) (now (images .entry)) ⌝ }
 {
     let items = steps.items;
     let count = steps.count;
@@ -65,7 +63,7 @@ pub(crate) fn apply_steps(job: &[u8], steps: JobSteps, capacity: u64, images: &m
     let mut i = 0;
     while i < count {
         let s = items[i];
-        present = apply_at(job, s, present, images);
+        present = apply_step(job, s, present, images);
         i += 1;
     }
 }

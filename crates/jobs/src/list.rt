@@ -1,22 +1,18 @@
-// Lists of four-byte numbers: decoded, tested and summed.
-use crate::field;
+// Lists of sizes: tested where they lie, and summed.
 ghost use mathlib.Core.Path.{_≡_};
-ghost use Prim.Native.Nat.{_*_, _≤_};
+ghost use mathlib.Core.Bool.{_&&_};
+ghost use Prim.Native.Nat.{_*_, _^_, _≤_};
+ghost use lib.Dec.{leb};
 ghost use lib.ListN.{length};
 ghost use Rattle.functions.specs.Words.{total};
-ghost use Rattle.jobs.specs.Fields.{words};
+ghost use Rattle.fields.specs.Bytes.{words};
+ghost use Rattle.fields.specs.Grammar.{mostSizes};
 ghost use Rattle.jobs.specs.Sizes.{sizesWithin};
 
-// Writes the numbers of the bytes into a list of as many places.
-pub(crate) fn decode_words(bytes: &[u8], out: &mut [u32])
-    requires { ⌜ length (now bytes) ≡ 4 * length (now out) ⌝ }
-    ensures { λ _. ⌜ now (out .exit) ≡ words (now (bytes .entry)) ⌝ }
+fn is_within(x: u64, least: u64, capacity: u64) -> bool
+    ensures { λ r. ⌜ r ≡ (leb least x && leb x capacity) ⌝ }
 {
-    let mut i = 0;
-    while i < out.len() {
-        out[i] = field::word_at(bytes, 4 * i) as u32;
-        i += 1;
-    }
+    least <= x && x <= capacity
 }
 
 // Whether each of n numbers is from least to the capacity.
@@ -26,11 +22,8 @@ pub(crate) fn sizes_within(bytes: &[u8], n: usize, least: u64, capacity: u64) ->
 {
     let mut i = 0;
     while i < n {
-        let x = field::word_at(bytes, 4 * i);
-        if x < least {
-            return false;
-        }
-        if capacity < x {
+        let x = fields::words::word_at(bytes, 4 * i);
+        if !is_within(x, least, capacity) {
             return false;
         }
         i += 1;
@@ -39,8 +32,8 @@ pub(crate) fn sizes_within(bytes: &[u8], n: usize, least: u64, capacity: u64) ->
 }
 
 pub(crate) fn sum_of(list: &[u32]) -> u64
-    requires { ⌜ length (now list) ≤ 2048 ⌝ }
-    ensures { λ r. ⌜ (r ≡ total (now (list .entry))) × (r ≤ 2048 * 4294967296) ⌝ }
+    requires { ⌜ length (now list) ≤ mostSizes ⌝ }
+    ensures { λ r. ⌜ (r ≡ total (now (list .entry))) × (r ≤ mostSizes * 2 ^ 32) ⌝ }
 {
     let mut sum = 0;
     let mut i = 0;

@@ -3,15 +3,15 @@ use mathlib.Core.Path.{_≡_, refl, ap, sym, _∙_}
 use mathlib.Core.Logic.{_⊎_, inl, inr}
 use mathlib.Core.Bool.{cond}
 use mathlib.Core.List.{List, [], _∷_, _++_, append-assoc}
-use Prim.Native.Nat.{ℕ, zero, suc, _+_, _-_, _*_, _/_, _%_, _^_, _≤_, _<_}
+use Prim.Native.Nat.{ℕ, zero, suc, _+_, _-_, _/_, _%_, _^_, _≤_, _<_}
 use native.Mathlib.Nat.{pow-suc}
 use native.Mathlib.Numerals.{unary-clauses}
 use native.Mathlib.Omega.{arith}
 use borrow.Author.Tests.{eq-eqb, ne-eqb, lt-ltb, le-ltb}
-use lib.Dec.{ltb, eqb}
+use lib.Dec.{eqb}
 use lib.ListN.{length, drop, set, length-set, drop-of-length-le}
 use Rattle.functions.proofs.Cases.{lt-or-ge}
-use Rattle.report.specs.Text.{digits, decimal}
+use Rattle.report.specs.Text.{digits, mostDigits, decimal}
 
 -- as many digits as the number is enough
 digits-same : (k j n : ℕ) → n < k → n < j → digits k n ≡ digits j n
@@ -56,13 +56,13 @@ drop-set (x ∷ l) (suc i) v h = drop-set l i v (omega arith)
 
 -- the digits of n from place `at` on are there, and those of `rest` are left
 pub record Spelt (n : ℕ) (buffer : List ℕ) (at rest : ℕ) : Type 0 where
-  pub places : length buffer ≡ 20
-  pub within : at ≤ 20
+  pub places : length buffer ≡ mostDigits
+  pub within : at ≤ mostDigits
   pub fits : rest < 10 ^ at
   pub text : decimal n ≡ lead rest ++ drop at buffer
 
 module _ (n : ℕ) (buffer : List ℕ) where
-  pub spelt-start : length buffer ≡ 20 → n < 2 ^ 64 → Spelt n (set buffer 19 (48 + n % 10)) 19 (n / 10)
+  pub spelt-start : length buffer ≡ mostDigits → n < 2 ^ 64 → Spelt n (set buffer 19 (48 + n % 10)) 19 (n / 10)
   spelt-start long l =
       record {
         places = length-set buffer 19 (48 + n % 10) ∙ long;
@@ -71,7 +71,7 @@ module _ (n : ℕ) (buffer : List ℕ) where
         text =
             last-digit n
             ∙ ap (λ (l : List ℕ). lead (n / 10) ++ l)
-            (sym (drop-set buffer 19 (48 + n % 10) (omega (arith, long)) ∙ ap (λ (l : List ℕ). (48 + n % 10) ∷ l) (drop-of-length-le buffer {i = 20} (omega (arith, long)))));
+            (sym (drop-set buffer 19 (48 + n % 10) (omega (arith, long)) ∙ ap (λ (l : List ℕ). (48 + n % 10) ∷ l) (drop-of-length-le buffer {i = mostDigits} (omega (arith, long)))));
       }
 
   module _ (at rest : ℕ) (s : Spelt n buffer at rest) where

@@ -8,8 +8,10 @@ use native.Mathlib.Nat.{eq-zero-or-pos, pow-suc}
 use native.Mathlib.Omega.{arith}
 use lib.Dec.{eqb}
 use lib.ListN.{length, getD, take, length-append, length-take}
+use Rattle.tables.specs.Check.{mostEntries}
+use Rattle.fields.specs.Grammar.{mostSizes}
 use Rattle.jobs.specs.declared.JobAnswer.{JobAnswer}
-use Rattle.report.specs.Text.{decimal, valuesText, line, floorWord, sumWord, scaleWord, imagesWord, refusedWord, listWord, floorText, acceptedText, refusedText, mostText}
+use Rattle.report.specs.Text.{mostDigits, decimal, valuesText, line, floorWord, sumWord, scaleWord, imagesWord, refusedWord, listWord, floorText, acceptedText, refusedText, mostText}
 use Rattle.report.proofs.Decimals.{lead, lead-none, lead-some, last-digit}
 
 digits-more : (n : ℕ) → length (decimal n) ≡ length (lead (n / 10)) + 1
@@ -38,7 +40,7 @@ line-length word values = length-append word _ ∙ ap (λ (n : ℕ). length word
 number-length : (word : List ℕ) (v : ℕ) → v < 2 ^ 64 → length (line word (v ∷ [])) ≤ length word + 22
 number-length word v l = omega (arith, line-length word (v ∷ []), values-length 19 (v ∷ []) first)
   where
-    first : (i : ℕ) → getD (v ∷ []) i 0 < 10 ^ 20
+    first : (i : ℕ) → getD (v ∷ []) i 0 < 10 ^ mostDigits
     first zero = omega arith
     first (suc i) = omega arith
 
@@ -60,7 +62,7 @@ floor-length kind answer f s = go (eqb kind 1)
     go true = omega (arith, length-append (line floorWord (answer .floor ∷ [])) (line sumWord (answer .sum ∷ [])), number-length floorWord _ f, number-length sumWord _ s)
     go false = omega arith
 
-pub accepted-length : (kind : ℕ) (answer : JobAnswer) (images : List ℕ) → answer .floor < 2 ^ 64 → answer .sum < 2 ^ 64 → answer .scale < 2 ^ 64 → length images ≤ 2048 → ((i : ℕ) → getD images i 0 < 2 ^ 32) → length (acceptedText kind answer (take (answer .n) images)) ≤ mostText
+pub accepted-length : (kind : ℕ) (answer : JobAnswer) (images : List ℕ) → answer .floor < 2 ^ 64 → answer .sum < 2 ^ 64 → answer .scale < 2 ^ 64 → length images ≤ mostSizes → ((i : ℕ) → getD images i 0 < 2 ^ 32) → length (acceptedText kind answer (take (answer .n) images)) ≤ mostText
 unfolding acceptedText
 accepted-length kind answer images f s e l small =
     omega (
@@ -69,14 +71,14 @@ accepted-length kind answer images f s e l small =
       length-append (line scaleWord (answer .scale ∷ [])) (line imagesWord (take (answer .n) images)),
       floor-length kind answer f s,
       number-length scaleWord _ e,
-      list-length imagesWord images (answer .n) 2048 l small,
+      list-length imagesWord images (answer .n) mostSizes l small,
     )
 
-pub refused-length : (number step n : ℕ) (list : List ℕ) → number < 2 ^ 64 → step < 2 ^ 64 → length list ≤ 2048 → ((i : ℕ) → getD list i 0 < 2 ^ 32) → length (refusedText number step (take n list)) ≤ mostText
+pub refused-length : (number step n : ℕ) (list : List ℕ) → number < 2 ^ 64 → step < 2 ^ 64 → length list ≤ mostEntries → ((i : ℕ) → getD list i 0 < 2 ^ 32) → length (refusedText number step (take n list)) ≤ mostText
 unfolding refusedText
 refused-length number step n list m s l small = omega (arith, length-append (line refusedWord (number ∷ step ∷ [])) (cond (eqb number 11) (line listWord (take n list)) []), first, second (eqb number 11))
   where
-    both : (i : ℕ) → getD (number ∷ step ∷ []) i 0 < 10 ^ 20
+    both : (i : ℕ) → getD (number ∷ step ∷ []) i 0 < 10 ^ mostDigits
     both zero = omega arith
     both (suc zero) = omega arith
     both (suc (suc i)) = omega arith
@@ -85,5 +87,5 @@ refused-length number step n list m s l small = omega (arith, length-append (lin
     first = omega (arith, line-length refusedWord (number ∷ step ∷ []), values-length 19 (number ∷ step ∷ []) both)
 
     second : (b : Bool) → length (cond b (line listWord (take n list)) []) ≤ 22600
-    second true = omega (arith, list-length listWord list n 2048 l small)
+    second true = omega (arith, list-length listWord list n mostEntries l small)
     second false = omega arith

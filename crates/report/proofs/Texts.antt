@@ -1,14 +1,16 @@
 -- The lines of a text, one after the other.
-use mathlib.Core.Path.{_≡_, refl}
-use mathlib.Core.List.{List, [], _∷_, _++_}
-use Prim.Native.Nat.{ℕ}
+use mathlib.Core.Path.{_≡_}
+use mathlib.Core.List.{List, [], _∷_}
+use Prim.Native.Nat.{ℕ, _^_, _<_}
 use native.Mathlib.Omega.{arith}
 use borrow.Author.Tests.{eq-eqb, ne-eqb}
+use lib.ListN.{getD, take}
 use Rattle.jobs.specs.declared.JobAnswer.{JobAnswer}
-use Rattle.report.specs.Text.{line, floorWord, sumWord, scaleWord, imagesWord, refusedWord, listWord, floorText, acceptedText, refusedText, decimal}
+use Rattle.report.specs.Text.{line, floorWord, sumWord, scaleWord, imagesWord, refusedWord, listWord, floorText, acceptedText, refusedText}
 use Rattle.report.specs.Put.{Put}
+use Rattle.report.specs.Answer.{Printable, answerText, TextPut}
+use Rattle.report.proofs.Lengths.{accepted-length, refused-length}
 use Rattle.report.proofs.Puts.{put-none, put-then, put-within}
-use Rattle.report.proofs.Values.{line-put, values-two}
 
 pub floor-none : (old : List ℕ) (kind : ℕ) (answer : JobAnswer) → (kind ≡ 1 → ⊥) → Put old 0 (floorText kind answer) old 0
 unfolding floorText
@@ -22,9 +24,6 @@ pub accepted-put : {old a b new : List ℕ} {i j end : ℕ} (kind : ℕ) (answer
 unfolding acceptedText
 accepted-put kind answer images p q r = put-then p (put-then q r)
 
-pub first-line : {old a b d new : List ℕ} {i j k end : ℕ} (number step : ℕ) → Put old 0 refusedWord a i → Put a i (32 ∷ decimal number) b j → Put b j (32 ∷ decimal step) d k → Put d k (10 ∷ []) new end → Put old 0 (line refusedWord (number ∷ step ∷ [])) new end
-first-line number step p q r s = line-put refusedWord (number ∷ step ∷ []) p (values-two number step q r) s
-
 -- the first line of a refusal, and the second for 11 alone
 module _ (number step : ℕ) (list : List ℕ) where
   pub refused-one : {old new : List ℕ} {end : ℕ} → (number ≡ 11 → ⊥) → Put old 0 (line refusedWord (number ∷ step ∷ [])) new end → Put old 0 (refusedText number step list) new end
@@ -34,3 +33,17 @@ module _ (number step : ℕ) (list : List ℕ) where
   pub refused-two : {old out new : List ℕ} {next end : ℕ} → number ≡ 11 → Put old 0 (line refusedWord (number ∷ step ∷ [])) out next → Put out next (line listWord list) new end → Put old 0 (refusedText number step list) new end
   unfolding refusedText
   refused-two eleven p q = rw (eq-eqb number 11 eleven) (put-then p q)
+
+-- the lines of an answer, by whether it refuses; numbers of 64 bits, and lists of numbers of 32 bits
+module _ {old new : List ℕ} {end : ℕ} (job : List ℕ) (answer : JobAnswer) (images list : List ℕ) (p : Printable job answer images list) where
+  pub answer-refused : (answer .number ≡ 0 → ⊥) → answer .number < 2 ^ 64 → answer .step < 2 ^ 64 → ((i : ℕ) → getD list i 0 < 2 ^ 32) → Put old 0 (refusedText (answer .number) (answer .step) (take (answer .length) list)) new end → TextPut old (answerText job answer images list) new end
+  unfolding answerText
+  answer-refused some n s small put =
+      rw (ne-eqb (answer .number) 0 some)
+      (record { put = put; short = refused-length (answer .number) (answer .step) (answer .length) list n s (p .list-most) small })
+
+  pub answer-accepted : answer .number ≡ 0 → answer .floor < 2 ^ 64 → answer .sum < 2 ^ 64 → answer .scale < 2 ^ 64 → ((i : ℕ) → getD images i 0 < 2 ^ 32) → Put old 0 (acceptedText (getD job 3 0) answer (take (answer .n) images)) new end → TextPut old (answerText job answer images list) new end
+  unfolding answerText
+  answer-accepted none f s e small put =
+      rw (eq-eqb (answer .number) 0 none)
+      (record { put = put; short = accepted-length (getD job 3 0) answer images f s e (p .images-most) small })

@@ -6,7 +6,7 @@ use native.Mathlib.Numerals.{add-one}
 use native.Mathlib.Omega.{arith}
 use lib.ListN.{length, getD, take, drop, length-drop}
 use lib.Seq.{take-suc, take-all}
-use Rattle.report.specs.Text.{decimal, valuesText, line}
+use Rattle.report.specs.Text.{mostDigits, decimal, valuesText, line}
 use Rattle.report.specs.Put.{Put}
 use Rattle.report.proofs.Puts.{put-none, put-then}
 
@@ -30,10 +30,10 @@ values-next values i p l q =
 pub values-all : {old out : List ℕ} {at next : ℕ} (values : List ℕ) (i : ℕ) → Put old at (valuesText (take i values)) out next → length values ≤ i → Put old at (valuesText values) out next
 values-all values i p l = rw (take-all i values l) at p
 
--- a space, and the part of a buffer of 20 places that has the digits
-pub spaced : {old out new : List ℕ} {at next end : ℕ} (n first : ℕ) (buffer : List ℕ) → length buffer ≡ 20 → drop first buffer ≡ decimal n → Put old at (32 ∷ []) out next → Put out next (take (20 - first) (drop first buffer)) new end → Put old at (32 ∷ decimal n) new end
+-- a space, and the part of a buffer that has the digits
+pub spaced : {old out new : List ℕ} {at next end : ℕ} (n first : ℕ) (buffer : List ℕ) → length buffer ≡ mostDigits → drop first buffer ≡ decimal n → Put old at (32 ∷ []) out next → Put out next (take (mostDigits - first) (drop first buffer)) new end → Put old at (32 ∷ decimal n) new end
 spaced n first buffer long is p q =
-    let part : take (20 - first) (drop first buffer) ≡ decimal n = take-all (20 - first) (drop first buffer) (simp length-drop (omega (arith, long))) ∙ is in
+    let part : take (mostDigits - first) (drop first buffer) ≡ decimal n = take-all (mostDigits - first) (drop first buffer) (simp length-drop (omega (arith, long))) ∙ is in
     put-then p (rw part at q)
 
 -- a line in three puts

@@ -4,15 +4,21 @@ use mathlib.Core.List.{List, [], _∷_, _++_}
 use Prim.Native.Nat.{ℕ, zero, suc, _+_, _-_, _/_, _%_}
 use lib.Dec.{ltb, eqb}
 use Rattle.tables.specs.Check.{mostEntries}
-use Rattle.jobs.specs.Fields.{mostSizes, Field, jobFields, jobKind}
+use Rattle.fields.specs.Parts.{Field, jobKind}
+use Rattle.fields.specs.Grammar.{mostSizes}
+use Rattle.fields.specs.Reading.{jobFields, fieldsOf}
 use Rattle.jobs.specs.Judge.{Refusal}
-use Rattle.jobs.specs.Job.{fieldsOf, judgeJob, jobImages, acceptedAnswer}
+use Rattle.jobs.specs.Job.{judgeJob, jobImages, acceptedAnswer}
 use Rattle.jobs.specs.declared.JobAnswer.{JobAnswer}
 
 -- the decimal digits of a number below 10 ^ k, without leading zeros
 unfoldable pub digits : ℕ → ℕ → List ℕ
 digits zero n = []
 digits (suc k) n = cond (ltb n 10) ((48 + n) ∷ []) (digits k (n / 10) ++ ((48 + n % 10) ∷ []))
+
+-- the most digits of a number of 64 bits
+abbrev pub mostDigits : ℕ
+mostDigits = 20
 
 -- n is below 10 ^ (n + 1)
 unfoldable pub decimal : ℕ → List ℕ

@@ -7,7 +7,7 @@ ghost use mathlib.Core.List.{_++_};
 ghost use Prim.Native.Nat.{_≤_, min};
 ghost use lib.ListN.{length, take, drop};
 ghost use Rattle.report.specs.Text.{handOverText, mostText};
-ghost use Rattle.report.specs.Put.{Put};
+ghost use Rattle.report.specs.Answer.{Lent, TextPut};
 
 // The text of a job's answer, into `out` from its start on.
 fn answer_text(
@@ -17,25 +17,21 @@ fn answer_text(
     list: &mut [u32],
     out: &mut [u8],
 ) -> usize
-    requires { ⌜ (length (now images) ≡ 2048) × (length (now working) ≡ 2048) × (length (now list) ≡ 2047) ⌝ }
-    ensures { λ r. ⌜ (Put (now (out .entry)) 0 (handOverText (now (job .entry))) (now (out .exit)) r) × (length (handOverText (now (job .entry))) ≤ mostText) ⌝ }
+    requires { ⌜ Lent (now images) (now working) (now list) ⌝ }
+    ensures { λ r. ⌜ TextPut (now (out .entry)) (handOverText (now (job .entry))) (now (out .exit)) r ⌝ }
 {
     let answer = jobs::windowfloor_job(job, images, working, list);
-    if answer.number != 0 {
-        let length = answer.length as usize;
-        return lines::put_refused(out, answer.number, answer.step, &list[..length]);
-    }
-    let n = answer.n as usize;
-    lines::put_accepted(out, job[3], answer, &images[..n])
+    lines::put_answer(out, job, answer, images, list)
 }
 
 // Puts the text for a job at the start of `out`, as far as it fits, and answers how many bytes.
 pub fn hand_over(job: &[u8], out: &mut [u8]) -> usize
     ensures count { λ r. ⌜ r ≡ min (length (handOverText (now (job .entry)))) (length (now (out .entry))) ⌝ }
-    ensures text { λ r. ⌜ now (out .exit) ≡ take r (handOverText (now (job .entry))) ++ drop r (now (out .entry)) ⌝ }
+    ensures text { λ r.
+        ⌜ now (out .exit) ≡ take r (handOverText (now (job .entry))) ++ drop r (now (out .entry)) ⌝ }
     ensures short { λ r. ⌜ length (handOverText (now (job .entry))) ≤ mostText ⌝ }
 {
-    let mut images = [0u32; jobs::MOST_SIZES];
+    let mut images = [0u32; fields::MOST_SIZES];
     let mut working = [0u64; tables::MOST_ENTRIES];
     let mut list = [0u32; jobs::LIST_PLACES];
     answer_text(job, &mut images, &mut working, &mut list, out)

@@ -4,7 +4,7 @@ ghost use mathlib.Core.Path.{_≡_};
 ghost use mathlib.Core.List.{[], _∷_};
 ghost use Prim.Native.Nat.{_+_, _%_, _≤_};
 ghost use lib.ListN.{length, drop};
-ghost use Rattle.report.specs.Text.{decimal, valuesText};
+ghost use Rattle.report.specs.Text.{mostDigits, decimal, valuesText};
 ghost use Rattle.report.specs.Put.{Put};
 
 // The most digits of a number.
@@ -42,8 +42,8 @@ fn last_digit(n: u64) -> u8
 
 // Puts a number's digits at the end of `digits`, and answers the place of the first.
 fn spell(n: u64, digits: &mut [u8]) -> usize
-    requires { ⌜ length (now digits) ≡ 20 ⌝ }
-    ensures { λ r. ⌜ (r ≤ 20) × (drop r (now (digits .exit)) ≡ decimal n) ⌝ }
+    requires { ⌜ length (now digits) ≡ mostDigits ⌝ }
+    ensures { λ r. ⌜ (r ≤ mostDigits) × (drop r (now (digits .exit)) ≡ decimal n) ⌝ }
 {
     let mut at = MOST_DIGITS - 1;
     digits[at] = last_digit(n);

@@ -64,7 +64,7 @@ fn put_runs(text: &[u8], from: usize, sizes: &mut [u32], runs: usize) -> usize
     at
 }
 
-fn write_answer(answer: jobs::SweepAnswer) {
+fn write_answer(answer: sweeps::SweepAnswer) {
     io::print_decimal(STDOUT_FILENO, answer.number);
     io::write_all(STDOUT_FILENO, b" ");
     io::print_decimal(STDOUT_FILENO, answer.floor);
@@ -79,7 +79,7 @@ fn run_sweep(text: &[u8], at: usize, head: Head, sizes: &mut [u32]) -> usize
 {
     let k = decimal::number_at(text, at);
     let end = put_runs(text, k.next, sizes, buffers::at_most(k.value, MOST_SIZES));
-    write_answer(jobs::windowfloor_sweep(head.capacity, head.family, sizes, head.low, head.high));
+    write_answer(sweeps::windowfloor_sweep(head.capacity, head.family, sizes, head.low, head.high));
     end
 }
 

@@ -8,7 +8,7 @@ ghost use Prim.Native.Nat.{_≤_, _<_};
 ghost use lib.ListN.{length};
 
 // The most entries of a case, one more than a table may have, and the most pairs.
-const MOST_ENTRIES: usize = 2_049;
+const MOST_ENTRIES: usize = tables::MOST_ENTRIES + 1;
 
 // The most places of a buffer.
 const MOST_PLACES: usize = 2_100;

@@ -1,10 +1,9 @@
 -- best c is the greatest total of images over lists of sizes with total at most c.
 use mathlib.Core.Path.{_≡_, refl, ap, sym, _∙_}
-use mathlib.Core.Bool.{true}
 use mathlib.Core.List.{List, [], _∷_, _++_, map}
 use mathlib.Core.Logic.{_⊎_, inl, inr, ⊎-elim}
-use Prim.Native.Nat.{ℕ, zero, suc, _+_, _-_, _*_, _≤_, _<_, max, zero-le}
-use native.Mathlib.Nat.{le-refl, le-trans, eq-zero-or-pos, mul-le-mul-left}
+use Prim.Native.Nat.{ℕ, zero, suc, _+_, _-_, _*_, _≤_, _<_, zero-le}
+use native.Mathlib.Nat.{le-refl, eq-zero-or-pos}
 use native.Mathlib.Omega.{arith}
 use lib.ListN.{length, getD, drop, length-drop}
 use Rattle.functions.specs.Words.{limit, total}
@@ -12,6 +11,7 @@ use Rattle.functions.proofs.Cases.{lt-or-ge}
 use Rattle.functions.proofs.Superadditive.{total-append}
 use Rattle.functions.proofs.Mapped.{map-append}
 use Rattle.tables.specs.Table.{entry, greatestSum, bests, best}
+use Rattle.tables.proofs.Entries.{Form}
 
 -- a pair's sum is at most the greatest
 sum-most : (xs bs : List ℕ) (i : ℕ) → i < length xs → i < length bs → getD xs i 0 + getD bs i 0 ≤ greatestSum xs bs
@@ -144,13 +144,13 @@ module _ (t : List ℕ) where
   pub best-reached : (c : ℕ) → Reached c
   best-reached c = reached-up-to c c (le-refl c)
 
-  module _ (none : entry t 0 ≡ 0) where
+  module _ (form : Form t) where
     -- one more size, where the others are bounded at every capacity
     bounds-more : (x c rest images : ℕ) → ((d : ℕ) → rest ≤ d → d < length t → images ≤ best t d) → x + rest ≤ c → c < length t → entry t x + images ≤ best t c
     bounds-more x c rest images bound l m = ⊎-elim nothing some (eq-zero-or-pos x)
       where
         nothing : x ≡ 0 → entry t x + images ≤ best t c
-        nothing e = omega (arith, ap (entry t) e, none, bound c (omega arith) m)
+        nothing e = omega (arith, ap (entry t) e, form .first, bound c (omega arith) m)
 
         some : 0 < x → entry t x + images ≤ best t c
         some h = omega (arith, bound (c - x) (omega arith) (omega arith), best-adds c x h (omega arith) (omega arith))
@@ -192,18 +192,17 @@ module _ (t : List ℕ) where
                 let back : c - (c - f .size) ≡ f .size = omega arith in
                 omega (arith, f .reaches, entry-most (f .size) (f .positive) (f .listed), pairs (c - f .size) (omega arith) (omega arith), ap (best t) back)
 
-  -- entries within the limit keep the totals small
-  module _ (none : entry t 0 ≡ 0) (small : (x : ℕ) → entry t x ≤ limit) where
+    -- entries within the limit keep the totals small
     total-most : (xs : List ℕ) → total (map (entry t) xs) ≤ limit * total xs
     unfolding total
     total-most [] = zero-le
     total-most (x ∷ xs) = ⊎-elim nothing some (eq-zero-or-pos x) (total-most xs)
       where
         nothing : x ≡ 0 → total (map (entry t) xs) ≤ limit * total xs → entry t x + total (map (entry t) xs) ≤ limit * (x + total xs)
-        nothing e rest = omega (arith, ap (entry t) e, none)
+        nothing e rest = omega (arith, ap (entry t) e, form .first)
 
         some : 0 < x → total (map (entry t) xs) ≤ limit * total xs → entry t x + total (map (entry t) xs) ≤ limit * (x + total xs)
-        some h rest = omega (arith, small x)
+        some h rest = omega (arith, form .small x)
 
     pub best-most : (c : ℕ) → best t c ≤ limit * c
     best-most c =

@@ -5,33 +5,20 @@ use mathlib.Core.Logic.{⊎-elim}
 use Prim.Native.Nat.{ℕ, zero, suc, _+_, _-_, _≤_, _<_}
 use native.Mathlib.Nat.{eq-or-lt-of-le}
 use native.Mathlib.Omega.{arith}
-use lib.ListN.{length, getD, drop, set, length-set, length-append, length-drop, length-reverse, List·getD-append}
-use lib.Seq.{getD-set-same, getD-set-other, getD-at, getD-append-add, getD-drop, ext-getD}
-use Rattle.functions.proofs.Cases.{lt-or-ge}
-use Rattle.tables.specs.Table.{best, bests, tableCapacity}
+use lib.ListN.{length, getD, take, drop, set, length-set, length-reverse, List·getD-append}
+use lib.Seq.{getD-at, getD-take, drop-set-lt, length-take-le, set-set}
+use Rattle.functions.proofs.Pasted.{pasted, pasted-length}
+use Rattle.tables.specs.Table.{best, bests, allBests, tableCapacity}
+use Rattle.tables.specs.Check.{TableForm, atFront}
+use Rattle.tables.specs.Working.{BestsBelow}
 use Rattle.tables.proofs.Best.{best-zero, bests-length}
+use Rattle.tables.proofs.Buffers.{pasted-write, pasted-whole}
 
--- the first c places hold best 0 to best (c - 1), and the others are as they were
-pub record Filled (t old working : List ℕ) (c : ℕ) : Type 0 where
-  pub same-length : length working ≡ length old
-  pub filled : (j : ℕ) → j < c → getD working j 0 ≡ best t j
-  pub others : (j : ℕ) → c ≤ j → getD working j 0 ≡ getD old j 0
+pub fewer-bests : (t working : List ℕ) (c d : ℕ) → BestsBelow t working c → d ≤ c → BestsBelow t working d
+fewer-bests t working c d b l =
+    record { form = b .form; in-table = omega (arith, b .in-table); in-working = omega (arith, b .in-working); holds = λ j m. b .holds j (omega arith) }
 
-module _ (t old : List ℕ) where
-  pub filled-next : (working : List ℕ) (c v : ℕ) → Filled t old working c → c < length working → v ≡ best t c → Filled t old (set working c v) (c + 1)
-  filled-next working c v f l e =
-      record {
-        same-length = length-set working c v ∙ f .same-length;
-        filled = λ j m. ⊎-elim (here j) (λ k. getD-set-other working c j v 0 (omega arith) ∙ f .filled j (omega arith)) (eq-or-lt-of-le m);
-        others = λ j m. getD-set-other working c j v 0 (omega arith) ∙ f .others j (omega arith);
-      }
-    where
-      here : (j : ℕ) → suc j ≡ c + 1 → getD (set working c v) j 0 ≡ best t j
-      here j k =
-          let same : c ≡ j = omega arith in
-          ap (λ (n : ℕ). getD (set working c v) n 0) (sym same) ∙ getD-set-same working c v 0 l ∙ e ∙ ap (best t) same
-
-  -- the bests from best 0 on
+module _ (t : List ℕ) where
   ascending-length : (c : ℕ) → length (reverse (bests t c)) ≡ suc c
   ascending-length c = length-reverse (bests t c) ∙ bests-length t c
 
@@ -54,45 +41,78 @@ module _ (t old : List ℕ) where
           ∙ List·getD-append (reverse (bests t c)) (best t (suc c) ∷ []) 0 i (omega (arith, ascending-length c))
           ∙ before (omega arith)
 
-  -- a place of the buffer that is filled
-  pub filled-read : 1 ≤ length t → (j : ℕ) → j < length t → getD (reverse (bests t (tableCapacity t)) ++ drop (length t) old) j 0 ≡ best t j
-  unfolding tableCapacity
-  filled-read some j l =
-      List·getD-append (reverse (bests t (length t - 1))) _ 0 j (omega (arith, ascending-length (length t - 1))) ∙ ascending (length t - 1) j (omega arith)
+  module _ (form : TableForm t) where
+    all-length : length (allBests t) ≡ length t
+    unfolding allBests tableCapacity
+    all-length = omega (arith, ascending-length (length t - 1), form .least)
 
-  pub filled-all : (working : List ℕ) → 1 ≤ length t → length t ≤ length old → Filled t old working (length t) → working ≡ reverse (bests t (tableCapacity t)) ++ drop (length t) old
-  unfolding tableCapacity
-  filled-all working some room f = ext-getD 0 working (front ++ back) lengths (λ i l. ⊎-elim (low i) (high i) (lt-or-ge i (length t)))
-    where
-      front : List ℕ
-      front = reverse (bests t (length t - 1))
+    all-at : (j : ℕ) → j < length t → getD (allBests t) j 0 ≡ best t j
+    unfolding allBests tableCapacity
+    all-at j l = ascending (length t - 1) j (omega arith)
 
-      back : List ℕ
-      back = drop (length t) old
+    -- a buffer whose first c places are written
+    bests-pasted : (old : List ℕ) (c : ℕ) → length t ≤ length old → c ≤ length t → BestsBelow t (pasted (allBests t) old c) c
+    bests-pasted old c room l =
+        let full = all-length in
+        let front = length-take-le c (allBests t) (omega arith) in
+        record {
+          form = form;
+          in-table = l;
+          in-working = omega (arith, pasted-length (allBests t) old c (omega arith) (omega arith));
+          holds = λ j m. List·getD-append (take c (allBests t)) (drop c old) 0 j (omega arith) ∙ getD-take c (allBests t) j 0 m ∙ all-at j (omega arith);
+        }
 
-      front-length : length front ≡ length t
-      front-length = omega (arith, ascending-length (length t - 1))
+    -- the buffer once it is filled
+    pub all-bests : (old working : List ℕ) → length t ≤ length old → working ≡ atFront (allBests t) old → BestsBelow t working (length t)
+    all-bests old working room is =
+        rw (is ∙ sym (pasted-whole (allBests t) old (length t) (sym all-length))) (bests-pasted old (length t) room (omega arith))
 
-      lengths : length working ≡ length (front ++ back)
-      lengths = omega (arith, f .same-length, length-append front back, front-length, length-drop (length t) old)
-
-      low : (i : ℕ) → i < length t → getD working i 0 ≡ getD (front ++ back) i 0
-      low i l =
-          f .filled i l ∙ sym (filled-read some i l)
-
-      high : (i : ℕ) → length t ≤ i → getD working i 0 ≡ getD (front ++ back) i 0
-      high i l =
-          let place : i ≡ length front + (i - length t) = omega (arith, front-length) in
-          let beyond : length t + (i - length t) ≡ i = omega arith in
-          f .others i l
-          ∙ sym (ap (λ (n : ℕ). getD (front ++ back) n 0) place ∙ getD-append-add front back (i - length t) 0 ∙ getD-drop (length t) old (i - length t) 0 ∙ ap (λ (n : ℕ). getD old n 0) beyond)
+-- the first c places are written, and the others are as they were
+pub record Filled (t old working : List ℕ) (c : ℕ) : Type 0 where
+  pub form : TableForm t
+  pub room : length t ≤ length old
+  pub positive : 1 ≤ c
+  pub in-table : c ≤ length t
+  pub working-is : working ≡ pasted (allBests t) old c
 
 -- best 0 is 0
-pub filled-first : (t old : List ℕ) → 0 < length old → Filled t (set old 0 0) (set old 0 0) 1
-filled-first t old some =
-    record { same-length = refl; filled = first; others = λ j l. refl }
+pub filled-first : (t old : List ℕ) → TableForm t → length t ≤ length old → Filled t (set old 0 0) (set old 0 0) 1
+filled-first t old form room =
+    record {
+      form = form;
+      room = omega (arith, length-set old 0 0);
+      positive = omega arith;
+      in-table = omega (arith, form .least);
+      working-is = first;
+    }
   where
-    first : (j : ℕ) → j < 1 → getD (set old 0 0) j 0 ≡ best t j
-    first j l =
-        let none : j ≡ 0 = omega arith in
-        rw none (getD-set-same old 0 0 0 some ∙ sym (best-zero t))
+    first : set old 0 0 ≡ pasted (allBests t) (set old 0 0) 1
+    first =
+        sym (set-set old 0 0 0)
+        ∙ pasted-write (allBests t) (set old 0 0) 0 (set old 0 0) 0 refl (sym (all-at t form 0 (omega (arith, form .least)) ∙ best-zero t)) (omega (arith, all-length t form, form .least)) (omega (arith, length-set old 0 0, form .least))
+
+module _ (t old working : List ℕ) (c : ℕ) (f : Filled t old working c) where
+  pub filled-length : length working ≡ length old
+  filled-length =
+      ap length (f .working-is) ∙ pasted-length (allBests t) old c (omega (arith, all-length t (f .form), f .in-table)) (omega (arith, f .room, f .in-table))
+
+  pub filled-bests : BestsBelow t working c
+  filled-bests = rw (f .working-is) (bests-pasted t (f .form) old c (f .room) (f .in-table))
+
+  pub filled-next : (v : ℕ) → c < length t → v ≡ best t c → Filled t old (set working c v) (c + 1)
+  filled-next v l e =
+      record {
+        form = f .form;
+        room = f .room;
+        positive = omega arith;
+        in-table = omega arith;
+        working-is = pasted-write (allBests t) old c working v (f .working-is) (e ∙ sym (all-at t (f .form) c l)) (omega (arith, all-length t (f .form))) (omega (arith, f .room));
+      }
+
+-- the first place, that was written before the loop, is one of the bests
+pub filled-end : (t old working : List ℕ) (c : ℕ) → Filled t (set old 0 0) working c → length t ≤ c → working ≡ atFront (allBests t) old
+unfolding atFront
+filled-end t old working c f l =
+    f .working-is
+    ∙ pasted-whole (allBests t) (set old 0 0) c (omega (arith, all-length t (f .form), f .in-table))
+    ∙ ap (λ (rest : List ℕ). allBests t ++ rest) (drop-set-lt (length (allBests t)) old 0 0 (omega (arith, all-length t (f .form), f .form .least)))

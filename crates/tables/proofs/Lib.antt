@@ -1,8 +1,10 @@
 pub mod Entries
 pub mod Best
 pub mod Halved
+pub mod Buffers
 pub mod Filled
 pub mod Walk
+pub mod Searched
 pub mod Written
 pub mod Promise
 pub mod Outcome

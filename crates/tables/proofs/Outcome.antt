@@ -1,8 +1,8 @@
 -- The table check's answer and buffers, for each way that it ends.
 use mathlib.Core.Path.{_≡_, refl, ap, sym, _∙_}
 use mathlib.Core.Bool.{Bool, true, false, cond, not, _||_, true≢false}
-use mathlib.Core.List.{List, _++_, reverse}
-use Prim.Native.Nat.{ℕ, _+_, _-_, _≤_, _<_}
+use mathlib.Core.List.{List, _++_}
+use Prim.Native.Nat.{ℕ, _-_, _≤_, _<_}
 use native.Mathlib.Omega.{arith}
 use borrow.Author.Tests.{ltb-false, le-ltb, ne-eqb}
 use lib.Dec.{ltb, eqb}
@@ -10,10 +10,13 @@ use lib.ListN.{length, getD, take, drop}
 use lib.Seq.{take-at}
 use Rattle.functions.specs.Promise.{StepPromise}
 use Rattle.functions.proofs.Cases.{not-refused, then-zero, then-decided}
-use Rattle.tables.specs.Table.{entry, tableCapacity, tableScale, best, bests, counterexample}
-use Rattle.tables.specs.Check.{mostEntries, withinLimit, formRefusal, entriesRefusal, lengthRefusal, tableRefusal, tableAnswer, workingAfter, listAfter}
+use Rattle.tables.specs.Table.{entry, tableCapacity, tableScale, best, allBests, counterexample}
+use Rattle.tables.specs.Check.{mostEntries, withinLimit, formRefusal, TableForm, entriesRefusal, lengthRefusal, tableRefusal, tableAnswer, atFront, workingAfter, listAfter}
+use Rattle.tables.specs.Working.{BestsBelow}
 use Rattle.tables.specs.Promise.{Overshoots}
 use Rattle.tables.specs.declared.TableAnswer.{TableAnswer}
+pub use Rattle.tables.proofs.Entries.{capacity-is, entry-is, scale-entry, scale-is-last}
+use Rattle.tables.proofs.Filled.{all-bests}
 use Rattle.tables.proofs.Promise.{accepted, refuted, overshoots, counterexample-promise, table-promise}
 
 pub neither : (a b : Bool) → a || b ≡ false → (a ≡ false) × (b ≡ false)
@@ -59,6 +62,23 @@ form-below t =
     (cond-below (eqb (tableScale t) 0) 11 9 _ (omega arith)
     (cond-below (not (withinLimit t)) 11 10 0 (omega arith) (omega arith)))
 
+-- what refusals 6 to 10 leave
+pub record Passed (t w l : List ℕ) : Type 0 where
+  pub lengths : lengthRefusal (length t) (length w) (length l) ≡ 0
+  pub form : TableForm t
+  pub working-room : length t ≤ length w
+  pub list-room : tableCapacity t ≤ length l
+
+pub passed : (t w l : List ℕ) → lengthRefusal (length t) (length w) (length l) ≡ 0 → formRefusal t ≡ 0 → Passed t w l
+passed t w l e f =
+    let room = lengths (length t) (length w) (length l) e in
+    record {
+      lengths = e;
+      form = record { least = room .least; most = room .most; entries = f };
+      working-room = room .working-room;
+      list-room = omega (arith, capacity-is t, room .list-room);
+    }
+
 module _ (t w l : List ℕ) where
   -- the contract's four claims
   abbrev pub Outcome : TableAnswer → List ℕ → List ℕ → Type 0
@@ -84,29 +104,35 @@ module _ (t w l : List ℕ) where
   refused-by-length n e some =
       unwritten n (rw (← e, ne-eqb n 0 some)) some (omega (arith, e, length-below (length t) (length w) (length l)))
 
-  module _ (room : lengthRefusal (length t) (length w) (length l) ≡ 0) where
-    by-entries : tableRefusal t (length w) (length l) ≡ entriesRefusal t
-    unfolding tableRefusal
-    by-entries = rw room
+  by-entries : lengthRefusal (length t) (length w) (length l) ≡ 0 → tableRefusal t (length w) (length l) ≡ entriesRefusal t
+  unfolding tableRefusal
+  by-entries room = rw room
 
-    pub refused-by-form : (n : ℕ) → n ≡ formRefusal t → (n ≡ 0 → ⊥) → Outcome (record { number = n; length = 0 }) w l
-    unfolding entriesRefusal
-    refused-by-form n e some =
-        unwritten n (by-entries ∙ rw (← e, ne-eqb n 0 some)) some (omega (arith, e, form-below t))
+  pub refused-by-form : lengthRefusal (length t) (length w) (length l) ≡ 0 → (n : ℕ) → n ≡ formRefusal t → (n ≡ 0 → ⊥) → Outcome (record { number = n; length = 0 }) w l
+  unfolding entriesRefusal
+  refused-by-form room n e some =
+      unwritten n (by-entries room ∙ rw (← e, ne-eqb n 0 some)) some (omega (arith, e, form-below t))
 
-    module _ (form : formRefusal t ≡ 0) (w′ : List ℕ) (filled : w′ ≡ reverse (bests t (tableCapacity t)) ++ drop (length t) w) where
-      pub ends-accepted : best t (tableCapacity t) ≤ tableScale t → Outcome (record { number = 0; length = 0 }) w′ l
-      unfolding tableAnswer workingAfter listAfter
-      ends-accepted fits =
-          let e = by-entries ∙ accepted t form fits in
-          (rw e, (filled ∙ rw e, (rw e, λ eleven. absurd (omega arith))))
+  module _ (p : Passed t w l) (w′ : List ℕ) (filled : w′ ≡ atFront (allBests t) w) where
+    pub working-bests : BestsBelow t w′ (length t)
+    working-bests = all-bests t (p .form) w w′ (p .working-room) filled
 
-      pub ends-refuted : (n : ℕ) (l′ : List ℕ) → tableScale t < best t (tableCapacity t) → n ≡ length (counterexample t) → l′ ≡ counterexample t ++ drop (length (counterexample t)) l → Outcome (record { number = 11; length = n }) w′ l′
-      unfolding tableAnswer workingAfter listAfter
-      ends-refuted n l′ over count written =
-          let e = by-entries ∙ refuted t form over in
-          let list : take n l′ ≡ counterexample t = ap (take n) written ∙ take-at (counterexample t) _ n (sym count) in
-          (rw (e, count), (filled ∙ rw e, (written ∙ rw e, λ eleven. rw list (overshoots t over))))
+    last-best : getD w′ (length t - 1) 0 ≡ best t (tableCapacity t)
+    last-best = working-bests .holds (length t - 1) (omega (arith, p .form .least)) ∙ ap (best t) (sym (capacity-is t))
+
+    pub ends-accepted : getD w′ (length t - 1) 0 ≤ getD t (length t - 1) 0 → Outcome (record { number = 0; length = 0 }) w′ l
+    unfolding tableAnswer workingAfter listAfter
+    ends-accepted fits =
+        let e = by-entries (p .lengths) ∙ accepted t (p .form .entries) (omega (arith, last-best, scale-is-last t)) in
+        (rw e, (filled ∙ rw e, (rw e, λ eleven. absurd (omega arith))))
+
+    pub ends-refuted : (n : ℕ) (l′ : List ℕ) → getD t (length t - 1) 0 < getD w′ (length t - 1) 0 → n ≡ length (counterexample t) → l′ ≡ atFront (counterexample t) l → Outcome (record { number = 11; length = n }) w′ l′
+    unfolding tableAnswer workingAfter listAfter atFront
+    ends-refuted n l′ over count written =
+        let more : tableScale t < best t (tableCapacity t) = omega (arith, last-best, scale-is-last t) in
+        let e = by-entries (p .lengths) ∙ refuted t (p .form .entries) more in
+        let list : take n l′ ≡ counterexample t = ap (take n) written ∙ take-at (counterexample t) _ n (sym count) in
+        (rw (e, count), (filled ∙ rw e, (written ∙ rw e, λ eleven. rw list (overshoots t more))))
 
 -- what a check that accepts promises
 pub checked-step : (t : List ℕ) (working list : ℕ) → tableRefusal t working list ≡ 0 → StepPromise (entry t) (tableCapacity t) (tableScale t)
@@ -130,24 +156,12 @@ same-refusal t working list w l =
 
 -- the list buffer and the length, by the number alone
 pub list-after : (t working list : List ℕ) (n : ℕ) → tableRefusal t (length working) (length list) ≡ n → listAfter t working list ≡ cond (eqb n 11) (counterexample t ++ drop (length (counterexample t)) list) list
-unfolding listAfter
+unfolding listAfter atFront
 list-after t working list n e = rw e
 
 pub answer-is : (t : List ℕ) (working list n : ℕ) → tableRefusal t working list ≡ n → tableAnswer t working list ≡ record { number = n; length = cond (eqb n 11) (length (counterexample t)) 0 }
 unfolding tableAnswer
 answer-is t working list n e = rw e
-
-pub scale-entry : (t : List ℕ) → tableScale t ≡ entry t (tableCapacity t)
-unfolding tableScale
-scale-entry t = refl
-
-pub entry-is : (t : List ℕ) (x : ℕ) → entry t x ≡ getD t x 0
-unfolding entry
-entry-is t x = refl
-
-pub capacity-is : (t : List ℕ) → tableCapacity t ≡ length t - 1
-unfolding tableCapacity
-capacity-is t = refl
 
 -- 11, whatever the buffers' lengths: the counterexample is one
 pub checked-overshoots : (t : List ℕ) (w l : ℕ) → tableRefusal t w l ≡ 11 → Overshoots t (counterexample t)

@@ -1,23 +1,20 @@
 -- P2: a table of document 01's form is accepted exactly when it is dual-feasible, and a counterexample overshoots.
-use mathlib.Core.Path.{_≡_, refl, ap, sym, _∙_}
-use mathlib.Core.Bool.{Bool, true, false, cond}
-use mathlib.Core.List.{List, [], _∷_, map}
-use mathlib.Core.Logic.{_⊎_, inl, inr, ⊎-elim}
-use Prim.Native.Nat.{ℕ, _+_, _-_, _≤_, _<_}
+use mathlib.Core.Path.{_≡_, refl}
+use mathlib.Core.List.{List, [], _∷_}
+use mathlib.Core.Logic.{_⊎_, inl, inr}
+use Prim.Native.Nat.{ℕ, _≤_, _<_}
 use native.Mathlib.Nat.{le-refl, le-trans}
 use native.Mathlib.Omega.{arith}
 use borrow.Author.Tests.{ltb-false, lt-ltb, le-ltb}
-use lib.Dec.{ltb}
 use lib.ListN.{length}
 use Rattle.functions.specs.Words.{total, DualFeasible}
-use Rattle.functions.specs.Promise.{StepPromise}
 use Rattle.functions.proofs.Cases.{lt-or-ge, not-refused}
 use Rattle.tables.specs.Table.{entry, tableCapacity, tableScale, best, counterexample}
-use Rattle.tables.specs.Check.{formRefusal, entriesRefusal}
-use Rattle.tables.specs.Promise.{TableForm, TablePromise, Overshoots}
-use Rattle.tables.proofs.Entries.{Form, form, entry-small}
-use Rattle.tables.proofs.Best.{Reached, best-reached, best-bounds}
-use Rattle.tables.proofs.Walk.{Walked, walked}
+use Rattle.tables.specs.Check.{formRefusal, TableForm, entriesRefusal}
+use Rattle.tables.specs.Promise.{TablePromise, Overshoots}
+use Rattle.tables.proofs.Entries.{form}
+use Rattle.tables.proofs.Best.{best-reached, best-bounds}
+use Rattle.tables.proofs.Walk.{walked}
 
 module _ (t : List ℕ) where
   -- refusal 11, where the form is right
@@ -47,7 +44,7 @@ module _ (t : List ℕ) where
     feasible : entriesRefusal t ≡ 0 → DualFeasible (entry t) (tableCapacity t) (tableScale t)
     unfolding DualFeasible
     feasible e xs l =
-        le-trans (best-bounds t (form t (h .entries) .first) xs (tableCapacity t) l in-table) (fits-scale (h .entries) e)
+        le-trans (best-bounds t (form t h) xs (tableCapacity t) l in-table) (fits-scale (h .entries) e)
 
     complete : DualFeasible (entry t) (tableCapacity t) (tableScale t) → entriesRefusal t ≡ 0
     unfolding DualFeasible
@@ -67,8 +64,8 @@ module _ (t : List ℕ) where
           step = λ e. record {
             dual-feasible = feasible e;
             scale-is-image = refl;
-            scale-positive = form t (h .entries) .last;
-            scale-within-limit = entry-small t (form t (h .entries) .small) (tableCapacity t);
+            scale-positive = form t h .last;
+            scale-within-limit = form t h .small (tableCapacity t);
             image-within-scale = one-image e;
           };
         }

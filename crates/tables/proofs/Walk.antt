@@ -1,15 +1,13 @@
 -- The counterexample fits its capacity, and its images total best of it.
-use mathlib.Core.Path.{_≡_, refl, ap, sym, _∙_}
-use mathlib.Core.Bool.{cond, true, false}
+use mathlib.Core.Path.{_≡_, ap, sym, _∙_}
 use mathlib.Core.List.{List, [], _∷_, map}
 use mathlib.Core.Logic.{_⊎_, inl, inr, ⊎-elim}
-use Prim.Native.Nat.{ℕ, zero, suc, _+_, _-_, _≤_, _<_, zero-le}
+use Prim.Native.Nat.{ℕ, zero, suc, _+_, _-_, _≤_, _<_}
 use native.Mathlib.Nat.{le-refl, eq-zero-or-pos}
 use native.Mathlib.Decide.{ℕ-discrete}
 use native.Mathlib.Numerals.{add-one}
 use native.Mathlib.Omega.{arith}
 use borrow.Author.Tests.{eq-eqb, ne-eqb}
-use lib.Dec.{eqb}
 use lib.ListN.{length}
 use Rattle.functions.specs.Words.{total}
 use Rattle.tables.specs.Table.{entry, best, leastFrom, leastSize, walk}
@@ -76,6 +74,10 @@ module _ (t : List ℕ) where
   pub best-positive : (c : ℕ) → 0 < best t c → 1 ≤ c
   best-positive c pos = ⊎-elim (λ e. absurd (omega (arith, ap (best t) e, best-zero t))) (λ l. l) (eq-zero-or-pos c)
 
+  -- the size that the walk takes fits c
+  pub least-fits : (c : ℕ) → 0 < best t c → (1 ≤ leastSize t c) × (leastSize t c ≤ c)
+  least-fits c pos = omega (arith, least-size c pos, best-positive c pos)
+
   pub walk-ends : (k c : ℕ) → best t c ≡ 0 → walk t (suc k) c ≡ []
   unfolding walk
   walk-ends k c e = rw (eq-eqb (best t c) 0 e)
@@ -100,12 +102,11 @@ module _ (t : List ℕ) where
       go : (best t c ≡ 0) ⊎ (0 < best t c) → ((d : ℕ) → d ≤ k → Walked d (walk t k d)) → Walked c (walk t (suc k) c)
       go (inl e) rest = rw (walk-ends k c e) (record { fits = omega arith; reaches = sym e; short = omega arith })
       go (inr pos) rest =
-          let y = least-size c pos in
-          let within : 1 ≤ c = best-positive c pos in
-          let w = rest (c - leastSize t c) (omega (arith, y .from, y .up-to)) in
+          let y = least-fits c pos in
+          let w = rest (c - leastSize t c) (omega (arith, y)) in
           rw (walk-goes k c pos)
           (record {
-            fits = omega (arith, w .fits, y .from, y .up-to);
-            reaches = omega (arith, w .reaches, y .reaches);
-            short = omega (arith, w .short, y .from, y .up-to);
+            fits = omega (arith, w .fits, y);
+            reaches = omega (arith, w .reaches, least-size c pos .reaches);
+            short = omega (arith, w .short, y);
           })

@@ -1,11 +1,12 @@
 -- The table check of document 01, "Operations and what they refuse": the answer, and what the lent buffers hold afterwards.
-use mathlib.Core.Bool.{Bool, true, false, cond, not, _&&_, _||_}
-use mathlib.Core.List.{List, [], _∷_, _++_, reverse}
-use Prim.Native.Nat.{ℕ, _-_}
+use mathlib.Core.Path.{_≡_}
+use mathlib.Core.Bool.{Bool, true, cond, not, _&&_, _||_}
+use mathlib.Core.List.{List, [], _∷_, _++_}
+use Prim.Native.Nat.{ℕ, _-_, _≤_}
 use lib.Dec.{leb, ltb, eqb}
 use lib.ListN.{length, drop}
 use Rattle.functions.specs.Words.{limit}
-use Rattle.tables.specs.Table.{entry, tableCapacity, tableScale, best, bests, counterexample}
+use Rattle.tables.specs.Table.{entry, tableCapacity, tableScale, best, allBests, counterexample}
 use Rattle.tables.specs.declared.TableAnswer.{TableAnswer}
 
 -- the most entries of a table
@@ -23,6 +24,12 @@ formRefusal t =
     cond (not (eqb (entry t 0) 0)) 8
     (cond (eqb (tableScale t) 0) 9
     (cond (not (withinLimit t)) 10 0))
+
+-- refusals 6 and 8 to 10 do not apply
+pub record TableForm (t : List ℕ) : Type 0 where
+  pub least : 2 ≤ length t
+  pub most : length t ≤ mostEntries
+  pub entries : formRefusal t ≡ 0
 
 -- the number that refuses a table for its entries, or 0
 unfoldable pub entriesRefusal : List ℕ → ℕ
@@ -50,16 +57,18 @@ tableAnswer t working list =
       length = cond (eqb (tableRefusal t working list) 11) (length (counterexample t)) 0;
     }
 
--- the working buffer afterwards: best 0 to best C, and the other places as they were, unless 6 to 10 refused
+-- a buffer with xs from its first place on, and the other places as they were
+unfoldable pub atFront : List ℕ → List ℕ → List ℕ
+atFront xs buffer = xs ++ drop (length xs) buffer
+
+-- the working buffer afterwards: best 0 to best C, unless 6 to 10 refused
 unfoldable pub workingAfter : List ℕ → List ℕ → List ℕ → List ℕ
 workingAfter t working list =
     cond (eqb (tableRefusal t (length working) (length list)) 0 || eqb (tableRefusal t (length working) (length list)) 11)
-    (reverse (bests t (tableCapacity t)) ++ drop (length t) working)
+    (atFront (allBests t) working)
     working
 
--- the list buffer afterwards: at 11 the counterexample, and the other places as they were
+-- the list buffer afterwards: at 11 the counterexample, else as it was
 unfoldable pub listAfter : List ℕ → List ℕ → List ℕ → List ℕ
 listAfter t working list =
-    cond (eqb (tableRefusal t (length working) (length list)) 11)
-    (counterexample t ++ drop (length (counterexample t)) list)
-    list
+    cond (eqb (tableRefusal t (length working) (length list)) 11) (atFront (counterexample t) list) list

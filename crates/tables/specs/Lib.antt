@@ -1,4 +1,5 @@
 pub mod Table
 pub mod Check
+pub mod Working
 pub mod Promise
 pub mod Rows

@@ -3,19 +3,12 @@ use mathlib.Core.Path.{_≡_}
 use mathlib.Core.List.{List, map}
 use mathlib.Core.Logic.{_↔_}
 use Prim.Native.Nat.{ℕ, _≤_, _<_}
-use lib.ListN.{length}
 use Rattle.functions.specs.Words.{total, DualFeasible}
 use Rattle.functions.specs.Promise.{StepPromise}
 use Rattle.tables.specs.Table.{entry, tableCapacity, tableScale}
-use Rattle.tables.specs.Check.{mostEntries, formRefusal, entriesRefusal}
+use Rattle.tables.specs.Check.{entriesRefusal}
 
--- refusals 6 and 8 to 10 do not apply
-pub record TableForm (t : List ℕ) : Type 0 where
-  pub least : 2 ≤ length t
-  pub most : length t ≤ mostEntries
-  pub entries : formRefusal t ≡ 0
-
--- of a table of this form: accepted exactly when dual-feasible, and then a step like any other
+-- of a table that has the form `TableForm`: accepted exactly when dual-feasible, and then a step like any other
 pub record TablePromise (t : List ℕ) : Type 0 where
   pub accepted-exactly : (entriesRefusal t ≡ 0) ↔ DualFeasible (entry t) (tableCapacity t) (tableScale t)
   pub step : entriesRefusal t ≡ 0 → StepPromise (entry t) (tableCapacity t) (tableScale t)

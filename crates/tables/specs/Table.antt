@@ -32,6 +32,10 @@ bests t (suc c) = greatestSum (drop 1 t) (bests t c) ∷ bests t c
 unfoldable pub best : List ℕ → ℕ → ℕ
 best t c = getD (bests t c) 0 0
 
+-- best 0, best 1, …, best C
+unfoldable pub allBests : List ℕ → List ℕ
+allBests t = reverse (bests t (tableCapacity t))
+
 -- the least size from y on, of at most k more, with entry y + best (c - y) = best c
 unfoldable pub leastFrom : List ℕ → ℕ → ℕ → ℕ → ℕ
 leastFrom t c y zero = y

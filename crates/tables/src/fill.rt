@@ -1,10 +1,10 @@
 // The greatest totals, best 0 to best C, in the working buffer.
 ghost use mathlib.Core.Path.{_≡_};
-ghost use mathlib.Core.List.{_++_, reverse};
-ghost use Prim.Native.Nat.{ℕ, _+_, _-_, _≤_, _<_, max};
-ghost use lib.ListN.{length, getD, drop};
-ghost use Rattle.tables.specs.Table.{best, bests, tableCapacity};
-ghost use Rattle.tables.specs.Check.{formRefusal};
+ghost use Prim.Native.Nat.{_+_, _-_, _≤_, _<_, max};
+ghost use lib.ListN.{length};
+ghost use Rattle.tables.specs.Table.{best, allBests};
+ghost use Rattle.tables.specs.Check.{TableForm, atFront};
+ghost use Rattle.tables.specs.Working.{BestsBelow};
 
 fn greater(a: u64, b: u64) -> u64
     ensures { λ r. ⌜ r ≡ max a b ⌝ }
@@ -14,7 +14,8 @@ fn greater(a: u64, b: u64) -> u64
 
 // Two lists, of which one fits y and the other c - y. The table is there for the contract.
 fn sum_at(table: &[u32], working: &[u64], c: usize, y: usize) -> u64
-    requires { ⌜ (1 ≤ y) × (y < c) × (c < length (now table)) × (c ≤ length (now working)) × (formRefusal (now table) ≡ 0) × (length (now table) ≤ 2048) × ((j : ℕ) → j < c → getD (now working) j 0 ≡ best (now table) j) ⌝ }
+    requires { ⌜ BestsBelow (now table) (now working) c ⌝ }
+    requires { ⌜ (1 ≤ y) × (y < c) ⌝ }
     ensures { λ r. ⌜ r ≡ best (now (table .entry)) y + best (now (table .entry)) (c - y) ⌝ }
 {
     working[y] + working[c - y]
@@ -23,7 +24,8 @@ fn sum_at(table: &[u32], working: &[u64], c: usize, y: usize) -> u64
 // best c, from the bests below c: the entry of c, or two lists that fit y and c - y. One of the two
 // is at most half of c. Two sums in each turn keep the processor busier than one.
 fn best_at(table: &[u32], working: &[u64], c: usize) -> u64
-    requires { ⌜ (1 ≤ c) × (c < length (now table)) × (c ≤ length (now working)) × (formRefusal (now table) ≡ 0) × (length (now table) ≤ 2048) × ((j : ℕ) → j < c → getD (now working) j 0 ≡ best (now table) j) ⌝ }
+    requires { ⌜ BestsBelow (now table) (now working) c ⌝ }
+    requires { ⌜ (1 ≤ c) × (c < length (now table)) ⌝ }
     ensures { λ r. ⌜ r ≡ best (now (table .entry)) c ⌝ }
 {
     let mut most = table[c] as u64;
@@ -43,8 +45,9 @@ fn best_at(table: &[u32], working: &[u64], c: usize) -> u64
 }
 
 pub(crate) fn fill_bests(table: &[u32], working: &mut [u64])
-    requires { ⌜ (2 ≤ length (now table)) × (length (now table) ≤ 2048) × (length (now table) ≤ length (now working)) × (formRefusal (now table) ≡ 0) ⌝ }
-    ensures { λ _. ⌜ now (working .exit) ≡ reverse (bests (now (table .entry)) (tableCapacity (now (table .entry)))) ++ drop (length (now (table .entry))) (now (working .entry)) ⌝ }
+    requires { ⌜ TableForm (now table) ⌝ }
+    requires { ⌜ length (now table) ≤ length (now working) ⌝ }
+    ensures { λ _. ⌜ now (working .exit) ≡ atFront (allBests (now (table .entry))) (now (working .entry)) ⌝ }
 {
     working[0] = 0;
     let mut c = 1;

@@ -26,22 +26,26 @@ pub extern "C" fn windowfloor_table_check(
     working: &mut [u64],
     list: &mut [u32],
 ) -> TableAnswer
-    ensures answer { λ r. ⌜ r ≡ tableAnswer (now (table .entry)) (length (now (working .entry))) (length (now (list .entry))) ⌝ }
-    ensures working { λ _. ⌜ now (working .exit) ≡ workingAfter (now (table .entry)) (now (working .entry)) (now (list .entry)) ⌝ }
-    ensures list { λ _. ⌜ now (list .exit) ≡ listAfter (now (table .entry)) (now (working .entry)) (now (list .entry)) ⌝ }
-    ensures overshoots { λ r. ⌜ (r .number ≡ 11 → Overshoots (now (table .entry)) (take (r .length) (now (list .exit)))) ⌝ }
+    ensures answer { λ r.
+        ⌜ r ≡ tableAnswer (now (table .entry)) (length (now (working .entry))) (length (now (list .entry))) ⌝ }
+    ensures working { λ _.
+        ⌜ now (working .exit) ≡ workingAfter (now (table .entry)) (now (working .entry)) (now (list .entry)) ⌝ }
+    ensures list { λ _.
+        ⌜ now (list .exit) ≡ listAfter (now (table .entry)) (now (working .entry)) (now (list .entry)) ⌝ }
+    ensures overshoots { λ r.
+        ⌜ (r .number ≡ 11 → Overshoots (now (table .entry)) (take (r .length) (now (list .exit)))) ⌝ }
 {
-    let lengths = form::refuse_lengths(table.len(), working.len(), list.len());
-    if lengths != 0 {
+    let by_lengths = form::refuse_lengths(table.len(), working.len(), list.len());
+    if by_lengths != 0 {
         return TableAnswer {
-            number: lengths,
+            number: by_lengths,
             length: 0,
         };
     }
-    let entries = form::refuse_form(table);
-    if entries != 0 {
+    let by_form = form::refuse_form(table);
+    if by_form != 0 {
         return TableAnswer {
-            number: entries,
+            number: by_form,
             length: 0,
         };
     }

@@ -4,7 +4,7 @@ use libc::STDIN_FILENO;
 use libc::STDOUT_FILENO;
 
 // One byte more than a job may have, so that a longer one is refused and never cut short.
-const MOST_READ: usize = 65_536;
+const MOST_READ: usize = fields::MOST_BYTES + 1;
 
 // A read that failed counts as an end too, so one more read tells them apart.
 fn input_ended() -> bool {

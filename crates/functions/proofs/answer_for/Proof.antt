@@ -1,5 +1,6 @@
 -- `answer_for` meets its contract: the judgement, then refusal 5, then the formula.
 use Rattle.functions.proofs.Answers.{number-is, scale-is, image-refused, image-over, image-accepted}
+use Rattle.functions.proofs.Prepared.{asked, imaged}
 use mathlib.Core.Path.{_≡_, sym, _∙_}
 use Rattle.functions.specs.Image.{familyRefusal}
 use borrow.Author.Needs.{needs}
@@ -20,14 +21,20 @@ returns c =
 returns-2 : tie.Need-returns-2
 returns-2 c = sym (image-over _ _ _ _ _ (accepted (c .before)) (c .if2 .taken))
 
+prepare-requires : tie.Need-prepare-requires
+prepare-requires c κs = accepted (c .before)
+
 image-of-requires : tie.Need-image-of-requires
-image-of-requires c κs = (accepted (c .before), c .if2 .left)
+image-of-requires c κs = asked _ _ _ _ (accepted (c .before .before)) _ (c .prepare .ensures) _ (c .before .if2 .left)
 
 returns-3 : tie.Need-returns-3
 returns-3 c =
-    let e = accepted (c .before .before) in
-    rw (c .image-of .ensures, scale-is _ _ _ _ _ (c .before .before .before .before .judge-family .ensures) e) (sym (image-accepted _ _ _ _ _ e (c .before .if2 .left)))
+    let before = c .before .before in
+    let e = accepted (before .before) in
+    let image = imaged _ _ _ _ e _ (c .before .prepare .ensures) _ (before .if2 .left) _ (c .image-of .ensures) in
+    rw (image .image-is, scale-is _ _ _ _ _ (before .before .before .before .judge-family .ensures) e) (sym (image-accepted _ _ _ _ _ e (before .if2 .left)))
 
 pub answer-for-spec : {M : Type 1} → statement M
 answer-for-spec =
-    tie.close (tie.spec judge-family-requires returns returns-2 image-of-requires returns-3)
+    tie.close
+    (tie.spec judge-family-requires returns returns-2 prepare-requires image-of-requires returns-3)

@@ -1,12 +1,11 @@
 -- `judge_family` meets its contract: the refusals stand in the definition's order.
 use mathlib.Core.Path.{_≡_, sym, _∙_}
 use mathlib.Core.Bool.{Bool, true, false, not}
-use native.Mathlib.Omega.{arith}
 use borrow.Author.Tests.{not-true, not-false, lt-ltb, le-ltb}
 use Rattle.functions.specs.Words.{limit, capacityFits}
-use Rattle.functions.specs.Families.{isFamily, legal, familyScale}
+use Rattle.functions.specs.Families.{isFamily, legal}
 use Rattle.functions.specs.Image.{familyRefusal, familyAnswer}
-use Rattle.functions.proofs.Legal.{both-le}
+use Rattle.functions.proofs.Legal.{family-bounds}
 use borrow.Author.Needs.{needs}
 use Rattle.functions.proofs.judge_family.Statement.{statement}
 use Rattle.functions.proofs.judge_family.Tie as tie
@@ -41,8 +40,7 @@ unfolding familyAnswer familyRefusal
 returns-2 c = rw (fits (c .before .before), refused (c .before .is-family .ensures) (c .if2 .taken))
 
 is-legal-requires : tie.Need-is-legal-requires
-unfolding isFamily
-is-legal-requires c κs = both-le 1 _ _ 7 (known c)
+is-legal-requires c κs = family-bounds _ (known c)
 
 returns-3 : tie.Need-returns-3
 unfolding familyAnswer familyRefusal
@@ -51,12 +49,9 @@ returns-3 c =
     rw (fits (d .before .before), known d, refused (c .before .is-legal .ensures) (c .if3 .taken))
 
 scale-requires : tie.Need-scale-requires
-unfolding isFamily capacityFits
 scale-requires c κs =
     let d = c .before .before in
-    let byte = both-le 1 _ _ 7 (known d) in
-    let capacity = both-le 1 _ _ limit (fits (d .before .before)) in
-    (capacity .0, capacity .1, byte .0, byte .1, legal-here c)
+    (fits (d .before .before), known d, legal-here c)
 
 returns-4 : tie.Need-returns-4
 unfolding familyAnswer familyRefusal

@@ -2,7 +2,7 @@
 use mathlib.Core.Path.{_∙_}
 use native.Mathlib.Omega.{arith}
 use borrow.Author.Needs.{needs}
-use Rattle.report.proofs.Puts.{put-whole}
+use Rattle.report.proofs.Puts.{put-length, put-whole}
 use Rattle.report.proofs.hand_over.Statement.{statement}
 use Rattle.report.proofs.hand_over.Tie as tie
 
@@ -19,10 +19,12 @@ answer-text-requires : tie.Need-answer-text-requires
 answer-text-requires c κs = search needs
 
 same-length : tie.Need-same-length
-same-length c = search needs
+same-length c = put-length (c .before .before .before .before .before .answer-text .ensures .put)
 
 returns : tie.Need-returns
-returns c = let text = c .before .before .before .before .before .answer-text .ensures in (text .0 .next-is ∙ omega arith, (put-whole (text .0), text .1))
+returns c =
+    let text = c .before .before .before .before .before .answer-text .ensures in
+    (text .put .next-is ∙ omega arith, (put-whole (text .put), text .short))
 
 pub hand-over-spec : {M : Type 1} → statement M
 hand-over-spec =

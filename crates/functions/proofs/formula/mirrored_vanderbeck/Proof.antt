@@ -37,9 +37,6 @@ part-is c =
     let pre = c .before .before .pre in
     ap (λ (n : ℕ). (a .p * y - n) / a .capacity) (c .lesser .ensures) ∙ sym (vanderbeck-down (a .capacity) (a .p) (pre .1) (pre .3) y)
 
-sub-mirrored : tie.Need-sub-mirrored
-sub-mirrored c = search needs
-
 mirrored-requires : tie.Need-mirrored-requires
 mirrored-requires c κs =
     let a = c .before .before .args in
@@ -54,7 +51,7 @@ returns c =
     let a = before .before .args in
     let g = vanderbeck (a .capacity) (a .p) in
     c .mirrored .ensures g
-    (omega (arith, vanderbeck-top (a .capacity) (a .p) (before .before .pre .1) (before .before .pre .3)))
+    (sym (before .before .pre .5))
     (ap g (sym (before .lesser-part .ensures)) ∙ sym (part-is (c .before)))
 
 pub mirrored-vanderbeck-spec : {M : Type 1} → statement M
@@ -66,6 +63,5 @@ mirrored-vanderbeck-spec =
     lesser-requires
     sub-part
     div-part
-    sub-mirrored
     mirrored-requires
     returns)

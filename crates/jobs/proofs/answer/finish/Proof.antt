@@ -1,73 +1,77 @@
 -- `finish` meets its contract: decoded sizes, mapped through the steps, and their sum.
-use mathlib.Core.Path.{ap, _∙_}
+use mathlib.Core.Path.{_≡_, ap, _∙_}
 use native.Mathlib.Omega.{arith}
 use lib.ListN.{length}
-use Rattle.jobs.specs.Fields.{words}
+use Rattle.fields.specs.Bytes.{words}
+use Rattle.fields.specs.Record.{spanBytes}
+use Rattle.fields.proofs.Filling.{span-length}
+use Rattle.jobs.proofs.Finishing.{appliable, images-are, roundable, floor-answer, cut-answer}
 use borrow.Author.Needs.{needs}
-use Rattle.jobs.proofs.Finishing.{capacity-bounded, chain-in, decoded-within, images-are, floor-answer, cut-answer}
 use Rattle.jobs.proofs.answer.finish.Statement.{statement}
 use Rattle.jobs.proofs.answer.finish.Tie as tie
 
-value-at-requires : tie.Need-value-at-requires
-value-at-requires c κs = omega (arith, c .before .before .before .pre .0 .sizes-within)
+span-bytes-requires : tie.Need-span-bytes-requires
+span-bytes-requires c κs = search needs
 
 decode-words-requires : tie.Need-decode-words-requires
-decode-words-requires c κs =
-    let pre = c .before .before .before .before .before .pre in
-    omega (arith, ap length (c .before .value-at .ensures), pre .0 .sizes-is, pre .4)
+decode-words-requires c κs = omega (arith, ap length (c .before .span-bytes .ensures), span-length (c .before .before .before .before .before .args .job .now) (c .before .before .before .before .before .args .parts .sizes) (c .before .before .before .before .before .pre .0 .sizes-within), c .before .before .before .before .before .pre .3)
+
+decoded : (c : tie.After-decode-words) → c .decode-words .last .1 .0 ≡ words (spanBytes (c .before .before .before .before .before .before .args .job .now) (c .before .before .before .before .before .before .args .parts .sizes))
+decoded c = c .decode-words .ensures ∙ ap words (c .before .before .span-bytes .ensures)
 
 apply-steps-requires : tie.Need-apply-steps-requires
 apply-steps-requires c κs =
-    let start = c .before .before .before .before .before .before .before .before .before in
-    let a = start .args in
-    let pre = start .pre in
-    let bounds = capacity-bounded (a .job .now) (a .read) (pre .1) (a .capacity) (pre .2) in
-    (pre .0 .steps-within, chain-in (a .job .now) (a .read) (pre .1) (a .capacity) (pre .2), bounds .0, bounds .1, decoded-within (a .job .now) (a .read) (pre .1) (a .capacity) (pre .2) _ (c .before .before .before .decode-words .ensures ∙ ap words (c .before .before .before .before .before .value-at .ensures)))
-
-shared-slice-read-if1 : tie.Need-shared-slice-read-if1
-shared-slice-read-if1 c = search needs
+    let pre = c .before .before .before .before .before .before .before .before .before .pre in
+    (pre .0 .steps-within, appliable _ _ _ (pre .0) (pre .1) _ (decoded (c .before .before .before)))
 
 sum-of-requires : tie.Need-sum-of-requires
 sum-of-requires c κs = search needs
 
-quotient-up-requires : tie.Need-quotient-up-requires
-quotient-up-requires c κs = search needs
+round-up-requires : tie.Need-round-up-requires
+round-up-requires c κs =
+    let pre = c .before .before .before .before .before .before .before .before .before .before .before .before .before .before .before .before .pre in
+    roundable _ _ _ (pre .0) (pre .1) _ (decoded (c .before .before .before .before .before .before .before .before .before .before)) _ (c .before .before .before .before .before .before .apply-steps .ensures) _ (pre .2) _ (c .sum-of .ensures .1)
+
+accepted-requires : tie.Need-accepted-requires
+accepted-requires c κs = search needs
 
 same-length : tie.Need-same-length
 same-length c = search needs
 
 returns : tie.Need-returns
 returns c =
-    let start = c .before .before .before .before .before .before .before .before .before .before .before .before .before .before .before .before .before in
-    let a = start .args in
-    let pre = start .pre in
-    let decoded = c .before .before .before .before .before .before .before .before .before .before .before .decode-words .ensures ∙ ap words (c .before .before .before .before .before .before .before .before .before .before .before .before .before .value-at .ensures) in
-    let mapped = c .before .before .before .before .before .before .before .apply-steps .ensures in
-    (floor-answer (a .job .now) (a .read) (pre .1) (a .capacity) (pre .2) _ decoded _ mapped (a .scale) (pre .3) _ _ (c .before .before .before .if1 .taken) (c .before .sum-of .ensures) (c .quotient-up .ensures), images-are (a .job .now) (a .read) (pre .1) (a .capacity) (pre .2) _ decoded _ mapped)
+    let pre = c .before .before .before .before .before .before .before .before .before .before .before .before .before .before .before .before .before .before .pre in
+    let mapped = c .before .before .before .before .before .before .before .before .apply-steps .ensures in (
+      c .accepted .ensures ∙ floor-answer _ _ _ (pre .0) (pre .1) _ (decoded (c .before .before .before .before .before .before .before .before .before .before .before .before)) _ mapped _ (pre .2) (c .before .before .before .before .if1 .taken) _ _ (c .before .before .sum-of .ensures .0) (c .before .round-up .ensures),
+      images-are _ _ _ (pre .0) (pre .1) _ (decoded (c .before .before .before .before .before .before .before .before .before .before .before .before)) _ mapped,
+    )
+
+accepted-requires-2 : tie.Need-accepted-requires-2
+accepted-requires-2 c κs = search needs
 
 same-length-2 : tie.Need-same-length-2
 same-length-2 c = search needs
 
 returns-2 : tie.Need-returns-2
 returns-2 c =
-    let start = c .before .before .before .before .before .before .before .before .before .before .before .before .before .before in
-    let a = start .args in
-    let pre = start .pre in
-    let decoded = c .before .before .before .before .before .before .before .before .decode-words .ensures ∙ ap words (c .before .before .before .before .before .before .before .before .before .before .value-at .ensures) in
-    let mapped = c .before .before .before .before .apply-steps .ensures in
-    (cut-answer (a .job .now) (a .read) (pre .1) (a .capacity) (pre .2) _ decoded _ mapped (a .scale) (pre .3) (c .if1 .left), images-are (a .job .now) (a .read) (pre .1) (a .capacity) (pre .2) _ decoded _ mapped)
+    let pre = c .before .before .before .before .before .before .before .before .before .before .before .before .before .before .before .pre in
+    let mapped = c .before .before .before .before .before .apply-steps .ensures in (
+      c .accepted2 .ensures ∙ cut-answer _ _ _ (pre .0) (pre .1) _ (decoded (c .before .before .before .before .before .before .before .before .before)) _ mapped _ (pre .2) (c .before .if1 .left),
+      images-are _ _ _ (pre .0) (pre .1) _ (decoded (c .before .before .before .before .before .before .before .before .before)) _ mapped,
+    )
 
 pub finish-spec : {M : Type 1} → statement M
 finish-spec =
     tie.close
     (tie.spec
-    value-at-requires
+    span-bytes-requires
     decode-words-requires
     apply-steps-requires
-    shared-slice-read-if1
     sum-of-requires
-    quotient-up-requires
+    round-up-requires
+    accepted-requires
     same-length
     returns
+    accepted-requires-2
     same-length-2
     returns-2)

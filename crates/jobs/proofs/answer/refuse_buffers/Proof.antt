@@ -1,28 +1,31 @@
 -- `refuse_buffers` meets its contract: its tests are the definition's.
 use borrow.Author.Tests.{lt-ltb, le-ltb}
+use Prim.Native.Nat.{_-_}
+use Rattle.tables.specs.Check.{mostEntries}
+use Rattle.fields.specs.Grammar.{mostBytes, mostSizes}
 use Rattle.jobs.specs.Job.{bufferRefusal}
 use Rattle.jobs.proofs.answer.refuse_buffers.Statement.{statement}
 use Rattle.jobs.proofs.answer.refuse_buffers.Tie as tie
 
 returns : tie.Need-returns
 unfolding bufferRefusal
-returns c = rw (lt-ltb 65535 _ (c .if1 .taken))
+returns c = rw (lt-ltb mostBytes _ (c .if1 .taken))
 
 returns-2 : tie.Need-returns-2
 unfolding bufferRefusal
-returns-2 c = rw (le-ltb 65535 _ (c .before .if1 .left), lt-ltb _ 2048 (c .if2 .taken))
+returns-2 c = rw (le-ltb mostBytes _ (c .before .if1 .left), lt-ltb _ mostSizes (c .if2 .taken))
 
 returns-3 : tie.Need-returns-3
 unfolding bufferRefusal
-returns-3 c = rw (le-ltb 65535 _ (c .before .before .if1 .left), le-ltb _ 2048 (c .before .if2 .left), lt-ltb _ 2048 (c .if3 .taken))
+returns-3 c = rw (le-ltb mostBytes _ (c .before .before .if1 .left), le-ltb _ mostSizes (c .before .if2 .left), lt-ltb _ mostEntries (c .if3 .taken))
 
 returns-4 : tie.Need-returns-4
 unfolding bufferRefusal
-returns-4 c = rw (le-ltb 65535 _ (c .before .before .before .if1 .left), le-ltb _ 2048 (c .before .before .if2 .left), le-ltb _ 2048 (c .before .if3 .left), lt-ltb _ 2047 (c .if4 .taken))
+returns-4 c = rw (le-ltb mostBytes _ (c .before .before .before .if1 .left), le-ltb _ mostSizes (c .before .before .if2 .left), le-ltb _ mostEntries (c .before .if3 .left), lt-ltb _ (mostEntries - 1) (c .if4 .taken))
 
 returns-5 : tie.Need-returns-5
 unfolding bufferRefusal
-returns-5 c = rw (le-ltb 65535 _ (c .before .before .before .if1 .left), le-ltb _ 2048 (c .before .before .if2 .left), le-ltb _ 2048 (c .before .if3 .left), le-ltb _ 2047 (c .if4 .left))
+returns-5 c = rw (le-ltb mostBytes _ (c .before .before .before .if1 .left), le-ltb _ mostSizes (c .before .before .if2 .left), le-ltb _ mostEntries (c .before .if3 .left), le-ltb _ (mostEntries - 1) (c .if4 .left))
 
 pub refuse-buffers-spec : {M : Type 1} → statement M
 refuse-buffers-spec = tie.close (tie.spec returns returns-2 returns-3 returns-4 returns-5)

@@ -1,41 +1,23 @@
--- `apply_family` meets its contract: the family part maps the list.
-use mathlib.Core.Path.{_≡_, _∙_}
-use native.Mathlib.Omega.{arith}
-use borrow.Author.Needs.{needs}
+-- `apply_family` meets its contract: the function part maps the list.
+use Rattle.jobs.specs.Chain.{stepRefusal}
 use Rattle.jobs.proofs.Applying.{family-applied}
+use borrow.Author.Needs.{needs}
 use Rattle.jobs.proofs.apply.apply_family.Statement.{statement}
 use Rattle.jobs.proofs.apply.apply_family.Tie as tie
 
-word-at-requires : tie.Need-word-at-requires
-word-at-requires c κs = search needs
-
-word-at-requires-2 : tie.Need-word-at-requires-2
-word-at-requires-2 c κs = search needs
-
-shared-slice-read-map-family : tie.Need-shared-slice-read-map-family
-shared-slice-read-map-family c = search needs
-
 map-family-requires : tie.Need-map-family-requires
-map-family-requires c κs = search needs
+unfolding stepRefusal
+map-family-requires c κs = (c .before .before .pre .accepted, c .before .before .pre .within)
+
+scale-of-requires : tie.Need-scale-of-requires
+unfolding stepRefusal
+scale-of-requires c κs = c .before .before .before .before .before .pre .accepted
 
 same-length : tie.Need-same-length
 same-length c = search needs
 
 returns : tie.Need-returns
-returns c =
-    let d = c .before .before in
-    let start = d .before .before .before .before .before .before .before in
-    let p = d .before .before .before .before .word-at .ensures .0 in
-    let q = d .before .before .before .word-at2 .ensures .0 in
-    rw (← p, ← q) (family-applied _ _ _ _ _ _ _ (rw (p, q) (start .pre .1)) (start .pre .2) (d .map-family .ensures .0) (d .map-family .ensures .1))
+returns c = family-applied _ _ _ _ _ _ _ (c .scale-of .ensures) (c .before .before .before .map-family .ensures)
 
 pub apply-family-spec : {M : Type 1} → statement M
-apply-family-spec =
-    tie.close
-    (tie.spec
-    word-at-requires
-    word-at-requires-2
-    shared-slice-read-map-family
-    map-family-requires
-    same-length
-    returns)
+apply-family-spec = tie.close (tie.spec map-family-requires scale-of-requires same-length returns)

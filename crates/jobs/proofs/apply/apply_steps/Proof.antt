@@ -1,13 +1,13 @@
 -- `apply_steps` meets its contract: the loop's invariant is `Through`.
-use mathlib.Core.Path.{_≡_, ap, sym, _∙_}
+use mathlib.Core.Path.{_≡_}
 use mathlib.Core.List.{_∷_}
-use Prim.Native.Nat.{ℕ, suc, _-_, _≤_}
+use Prim.Native.Nat.{suc, _-_, _≤_}
 use native.Mathlib.Omega.{arith}
-use borrow.Author.Needs.{needs}
-use lib.ListN.{length, drop}
-use Rattle.jobs.specs.Record.{StepWithin, StepsWithin, stepsIn}
-use Rattle.jobs.proofs.Present.{steps-length, steps-at, step-at}
-use Rattle.jobs.proofs.Applying.{Through, through-start, through-next, through-end, now-fine}
+use lib.ListN.{drop}
+use Rattle.fields.specs.Record.{stepsIn}
+use Rattle.fields.proofs.Filling.{steps-count}
+use Rattle.jobs.proofs.Present.{steps-at, step-at}
+use Rattle.jobs.proofs.Applying.{Through, through-start, through-next, through-end, appliable}
 use Rattle.jobs.proofs.apply.apply_steps.Statement.{statement}
 use Rattle.jobs.proofs.apply.apply_steps.Tie as tie
 
@@ -20,7 +20,7 @@ abbrev μ-loop : tie.MeasureT-loop
 loop-holds : tie.Need-loop-holds Inv-loop μ-loop
 loop-holds c =
     let pre = c .before .before .before .pre in
-    (omega arith, through-start _ _ _ (pre .1) (pre .2) (pre .3) (pre .4))
+    (omega arith, through-start _ _ _ (pre .1))
 
 mul-s : tie.Need-mul-s Inv-loop μ-loop
 mul-s c = omega arith
@@ -32,11 +32,11 @@ array-copy-out-s c = omega (arith, c .before .before .before .before .before .pr
 here : (c : tie.In-loop Inv-loop μ-loop) → drop (c .before .loop .i) (stepsIn (c .before .before .before .before .before .args .job .now) (c .before .before .before .before .before .args .steps)) ≡ step-at (c .before .before .before .before .before .args .job .now) (c .before .before .before .before .before .args .steps) (c .before .before .before .before .before .pre .0) (c .before .loop .i) ∷ drop (suc (c .before .loop .i)) (stepsIn (c .before .before .before .before .before .args .job .now) (c .before .before .before .before .before .args .steps))
 here c = steps-at _ _ (c .before .before .before .before .before .pre .0) (c .before .loop .i) (c .loop-test .taken)
 
-apply-at-requires : tie.Need-apply-at-requires Inv-loop μ-loop
-apply-at-requires c κs =
+apply-step-requires : tie.Need-apply-step-requires Inv-loop μ-loop
+apply-step-requires c κs =
     let k = c .before .before in
     let loop = k .before .loop in
-    (k .before .before .before .before .before .pre .0 .each (loop .i) (k .loop-test .taken), now-fine _ _ _ _ _ _ (loop .inv .1) _ (here k), loop .inv .1 .small)
+    (k .before .before .before .before .before .pre .0 .each (loop .i) (k .loop-test .taken), appliable _ _ _ _ _ _ (loop .inv .1) _ (here k))
 
 add-i : tie.Need-add-i Inv-loop μ-loop
 add-i c = omega (arith, c .before .before .before .before .before .loop-test .taken, c .before .before .before .before .before .before .before .before .before .before .pre .0 .most)
@@ -48,7 +48,7 @@ loop-again : tie.Need-loop-again Inv-loop μ-loop
 loop-again c =
     let k = c .before .before .before .before .before in
     let loop = k .before .loop in
-    (omega (arith, k .loop-test .taken), through-next _ _ _ _ _ _ (loop .inv .1) _ (here k) _ _ (c .before .before .apply-at .ensures))
+    (omega (arith, k .loop-test .taken), through-next _ _ _ _ _ _ (loop .inv .1) _ (here k) _ _ (c .before .before .apply-step .ensures))
 
 same-length : tie.Need-same-length Inv-loop μ-loop
 same-length c = c .before .loop .inv .1 .same-length
@@ -57,7 +57,7 @@ returns : tie.Need-returns Inv-loop μ-loop
 returns c =
     let start = c .before .before .before .before .before in
     let loop = c .before .loop in
-    through-end _ _ _ _ _ _ (loop .inv .1) (omega (arith, c .loop-test .left, steps-length (start .args .job .now) (start .args .steps) (start .pre .0)))
+    through-end _ _ _ _ _ _ (loop .inv .1) (omega (arith, c .loop-test .left, steps-count (start .args .job .now) (start .args .steps) (start .pre .0)))
 
 pub apply-steps-spec : {M : Type 1} → statement M
 apply-steps-spec =
@@ -68,7 +68,7 @@ apply-steps-spec =
     loop-holds
     mul-s
     array-copy-out-s
-    apply-at-requires
+    apply-step-requires
     add-i
     loop-less
     loop-again

@@ -1,10 +1,10 @@
 -- `apply_table_in` meets its contract: the table part maps the list through the decoded entries.
-use mathlib.Core.Path.{_≡_}
-use Prim.Native.Nat.{_-_}
+use mathlib.Core.Path.{sym}
 use native.Mathlib.Omega.{arith}
-use borrow.Author.Needs.{needs}
+use Prim.Native.Nat.{_-_}
 use lib.ListN.{length}
-use Rattle.jobs.proofs.Applying.{table-applied}
+use Rattle.tables.proofs.Entries.{scale-is-last}
+use borrow.Author.Needs.{needs}
 use Rattle.jobs.proofs.apply.apply_table_in.Statement.{statement}
 use Rattle.jobs.proofs.apply.apply_table_in.Tie as tie
 
@@ -37,7 +37,7 @@ same-length-2 c = search needs
 returns : tie.Need-returns
 returns c =
     let d = c .before .before .before .before .before .before .before .before in
-    rw (← (d .decode-words .ensures)) (table-applied _ (d .decode-words .last .1 .0) (d .before .before .before .before .before .args .images .now) _ (c .before .before .before .map-table .ensures))
+    rw (← (d .decode-words .ensures)) (sym (scale-is-last (d .decode-words .last .1 .0)), c .before .before .before .map-table .ensures)
 
 pub apply-table-in-spec : {M : Type 1} → statement M
 apply-table-in-spec =

@@ -1,12 +1,12 @@
 -- `judge_steps` meets its contract: the loop's invariant is `Present`, with the list buffer as it was.
-use mathlib.Core.Path.{_≡_, refl, sym, ap, _∙_}
+use mathlib.Core.Path.{_≡_, refl, ap, _∙_}
 use mathlib.Core.List.{_∷_}
-use Prim.Native.Nat.{ℕ, suc, _-_, _≤_}
+use Prim.Native.Nat.{suc, _-_, _≤_}
 use native.Mathlib.Omega.{arith}
-use borrow.Author.Needs.{needs}
-use lib.ListN.{length, getD, drop}
-use Rattle.jobs.specs.Record.{StepWithin, StepsWithin, stepsIn}
-use Rattle.jobs.proofs.Present.{Present, present-start, loop-refused, loop-next, loop-done, steps-length, steps-at, step-at}
+use lib.ListN.{length, drop}
+use Rattle.fields.specs.Record.{stepsIn}
+use Rattle.fields.proofs.Filling.{steps-count}
+use Rattle.jobs.proofs.Present.{Present, present-start, loop-refused, loop-next, loop-done, steps-at, step-at}
 use Rattle.jobs.proofs.judge.judge_steps.Statement.{statement}
 use Rattle.jobs.proofs.judge.judge_steps.Tie as tie
 
@@ -33,11 +33,11 @@ here c = steps-at _ _ (c .before .before .before .before .before .before .pre .0
 array-copy-out-s : tie.Need-array-copy-out-s Inv-loop μ-loop
 array-copy-out-s c = omega (arith, c .before .before .before .before .before .before .pre .0 .most)
 
-judge-at-requires : tie.Need-judge-at-requires Inv-loop μ-loop
-judge-at-requires c κs =
+judge-step-requires : tie.Need-judge-step-requires Inv-loop μ-loop
+judge-step-requires c κs =
     let k = c .before .before .before in
     let start = k .before .before .before .before .before .before in
-    (start .pre .0 .each (k .before .loop .i) (k .loop-test .taken), omega (arith, start .pre .1, k .before .loop .inv .3), omega (arith, start .pre .2, ap length (k .before .loop .inv .2)))
+    (start .pre .0 .each (k .before .loop .i) (k .loop-test .taken), record { for-bests = omega (arith, start .pre .1 .for-bests, k .before .loop .inv .3); for-list = omega (arith, start .pre .1 .for-list, ap length (k .before .loop .inv .2)) })
 
 add-t21 : tie.Need-add-t21 Inv-loop μ-loop
 add-t21 c = omega (arith, c .before .before .before .before .before .before .before .before .before .before .before .before .before .before .before .before .pre .0 .most)
@@ -45,18 +45,18 @@ add-t21 c = omega (arith, c .before .before .before .before .before .before .bef
 same-length : tie.Need-same-length Inv-loop μ-loop
 same-length c =
     let d = c .before .before .before .before .before .before in
-    d .judge-at .kept .1 .1 .1 .0 ∙ d .before .before .before .before .before .loop .inv .3
+    d .judge-step .kept .1 .1 .1 .0 ∙ d .before .before .before .before .before .loop .inv .3
 
 same-length-2 : tie.Need-same-length-2 Inv-loop μ-loop
 same-length-2 c =
     let d = c .before .before .before .before .before .before in
-    d .judge-at .kept .1 .1 .1 .1 .0 ∙ ap length (d .before .before .before .before .before .loop .inv .2)
+    d .judge-step .kept .1 .1 .1 .1 .0 ∙ ap length (d .before .before .before .before .before .loop .inv .2)
 
 returns : tie.Need-returns Inv-loop μ-loop
 returns c =
     let d = c .before .before .before .before .before .before in
     let loop = d .before .before .before .before .before .loop in
-    rw (← (loop .inv .2)) (loop-refused _ _ _ _ (loop .inv .1) _ (here (d .before .before .before .before)) _ (d .judge-at .ensures .0) _ _ (d .judge-at .ensures .1) (c .if1 .taken))
+    rw (← (loop .inv .2)) (loop-refused _ _ _ _ (loop .inv .1) _ (here (d .before .before .before .before)) _ _ _ (d .judge-step .ensures) (c .if1 .taken))
 
 add-i : tie.Need-add-i Inv-loop μ-loop
 add-i c = omega arith
@@ -68,8 +68,8 @@ loop-again : tie.Need-loop-again Inv-loop μ-loop
 loop-again c =
     let d = c .before .before .before .before .before .before in
     let loop = d .before .before .before .before .before .loop in
-    let next = loop-next _ _ _ _ (loop .inv .1) _ (here (d .before .before .before .before)) _ (d .judge-at .ensures .0) _ _ (d .judge-at .ensures .1) (c .if1 .left) in
-    (omega (arith, d .before .before .before .before .loop-test .taken), next .0, next .1 ∙ loop .inv .2, d .judge-at .kept .1 .1 .1 .0 ∙ loop .inv .3)
+    let next = loop-next _ _ _ _ (loop .inv .1) _ (here (d .before .before .before .before)) _ _ _ (d .judge-step .ensures) (c .if1 .left) in
+    (omega (arith, d .before .before .before .before .loop-test .taken), next .0, next .1 ∙ loop .inv .2, d .judge-step .kept .1 .1 .1 .0 ∙ loop .inv .3)
 
 same-length-3 : tie.Need-same-length-3 Inv-loop μ-loop
 same-length-3 c = c .before .loop .inv .3
@@ -81,7 +81,7 @@ returns-2 : tie.Need-returns-2 Inv-loop μ-loop
 returns-2 c =
     let start = c .before .before .before .before .before .before in
     let loop = c .before .loop in
-    rw (← (loop .inv .2)) (loop-done _ _ _ _ _ (loop .inv .1) (omega (arith, c .loop-test .left, steps-length (start .args .job .now) (start .args .steps) (start .pre .0))))
+    rw (← (loop .inv .2)) (loop-done _ _ _ _ _ (loop .inv .1) (omega (arith, c .loop-test .left, steps-count (start .args .job .now) (start .args .steps) (start .pre .0))))
 
 pub judge-steps-spec : {M : Type 1} → statement M
 judge-steps-spec =
@@ -92,7 +92,7 @@ judge-steps-spec =
     loop-holds
     mul-s
     array-copy-out-s
-    judge-at-requires
+    judge-step-requires
     add-t21
     same-length
     same-length-2

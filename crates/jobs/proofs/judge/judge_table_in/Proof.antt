@@ -1,13 +1,13 @@
 -- `judge_table_in` meets its contract: the table check of the decoded entries, then the capacity.
-use mathlib.Core.Path.{_≡_, sym, ap, _∙_}
-use Prim.Native.Nat.{ℕ, _-_, _≤_}
+use mathlib.Core.Path.{_≡_, sym, _∙_}
+use Prim.Native.Nat.{_-_, _≤_}
 use native.Mathlib.Omega.{arith}
 use borrow.Author.Needs.{needs}
-use lib.ListN.{length, getD}
-use Rattle.tables.specs.Table.{entry, tableCapacity, tableScale}
-use Rattle.tables.proofs.Outcome.{capacity-is, scale-entry, entry-is}
-use Rattle.jobs.specs.Fields.{words}
-use Rattle.jobs.proofs.Judging.{Judged, table-refused, table-of-another, table-fine}
+use lib.ListN.{length}
+use Rattle.tables.specs.Table.{tableCapacity}
+use Rattle.tables.proofs.Entries.{capacity-is, scale-is-last}
+use Rattle.fields.specs.Bytes.{words}
+use Rattle.jobs.proofs.Judging.{table-refused, table-of-another, table-fine}
 use Rattle.jobs.proofs.judge.judge_table_in.Statement.{statement}
 use Rattle.jobs.proofs.judge.judge_table_in.Tie as tie
 
@@ -32,17 +32,17 @@ same-length-2 c = search needs
 same-length-3 : tie.Need-same-length-3
 same-length-3 c = search needs
 
-entries : (c : tie.After-windowfloor-table-check) → c .before .before .before .before .before .before .decode-words .last .1 .0 ≡ words (c .before .before .before .before .before .before .before .before .before .before .before .before .args .value .now)
+entries : (c : tie.After-windowfloor-table-check) → c .before .before .before .before .before .before .decode-words .last .1 .0 ≡ words (c .before .before .before .before .before .before .before .before .before .before .before .before .args .bytes .now)
 entries c = c .before .before .before .before .before .before .decode-words .ensures
 
 same-length-of : (c : tie.After-windowfloor-table-check) → length (c .before .before .before .before .before .before .decode-words .last .1 .0) ≡ length (c .before .before .before .before .before .before .before .before .before .before .before .before .args .table .now)
 same-length-of c = c .before .before .before .before .before .before .decode-words .kept .1 .0
 
 room : (c : tie.After-windowfloor-table-check) → length (c .before .before .before .before .before .before .decode-words .last .1 .0) ≤ length (c .before .before .before .before .before .before .before .before .before .before .before .before .args .working .now)
-room c = omega (arith, same-length-of c)
+room c = omega (arith, same-length-of c, c .before .before .before .before .before .before .before .before .before .before .before .before .pre .3)
 
 list-room : (c : tie.After-windowfloor-table-check) → tableCapacity (c .before .before .before .before .before .before .decode-words .last .1 .0) ≤ length (c .before .before .before .before .before .before .before .before .before .before .before .before .args .list .now)
-list-room c = omega (arith, same-length-of c, capacity-is (c .before .before .before .before .before .before .decode-words .last .1 .0))
+list-room c = omega (arith, same-length-of c, c .before .before .before .before .before .before .before .before .before .before .before .before .pre .3, capacity-is (c .before .before .before .before .before .before .decode-words .last .1 .0))
 
 returns : tie.Need-returns
 returns c =
@@ -93,8 +93,7 @@ returns-3 c =
     let d = c .before .before .before .before .before .before .before in
     let e = d .windowfloor-table-check .ensures in
     let t = d .before .before .before .before .before .before .decode-words .last .1 .0 in
-    let scale = scale-entry t ∙ entry-is t (tableCapacity t) ∙ ap (λ (n : ℕ). getD t n 0) (capacity-is t) in
-    rw (← (entries d)) (table-fine _ _ _ _ (room d) (list-room d) _ (e .0) _ (e .1 .1 .0) (c .before .before .if1 .left) (capacity-is _ ∙ c .before .if2 .left) _ (sym scale))
+    rw (← (entries d)) (table-fine _ _ _ _ (room d) (list-room d) _ (e .0) _ (e .1 .1 .0) (c .before .before .if1 .left) (capacity-is _ ∙ c .before .if2 .left) _ (sym (scale-is-last t)))
 
 pub judge-table-in-spec : {M : Type 1} → statement M
 judge-table-in-spec =

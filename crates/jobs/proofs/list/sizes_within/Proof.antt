@@ -2,11 +2,13 @@
 use mathlib.Core.Path.{_≡_, refl, sym, _∙_}
 use Prim.Native.Nat.{_-_, _≤_, _<_}
 use native.Mathlib.Omega.{arith}
+use borrow.Author.Needs.{needs}
+use borrow.Author.Tests.{not-true, not-false}
 use lib.ListN.{length, getD, drop}
-use Rattle.jobs.specs.Fields.{words}
+use Rattle.fields.specs.Bytes.{words}
 use Rattle.jobs.specs.Sizes.{sizesWithin}
-use Rattle.jobs.proofs.Words.{words-length, word-of}
-use Rattle.jobs.proofs.SizeTests.{size-below, size-above, size-passes, sizes-passed}
+use Rattle.fields.proofs.Decoding.{words-length, word-of}
+use Rattle.jobs.proofs.SizeTests.{size-fails, size-fits, sizes-passed}
 use Rattle.jobs.proofs.list.sizes_within.Statement.{statement}
 use Rattle.jobs.proofs.list.sizes_within.Tie as tie
 
@@ -34,15 +36,13 @@ before-end c =
     let start = c .before .before .before .before in
     omega (arith, words-length (start .args .n) (start .args .bytes .now) (start .pre))
 
+is-within-requires : tie.Need-is-within-requires Inv-loop μ-loop
+is-within-requires c κs = search needs
+
 returns : tie.Need-returns Inv-loop μ-loop
 returns c =
-    let turn = c .before in
-    sym (turn .before .before .loop .inv .1 ∙ size-below _ _ _ _ _ (read-is turn) (before-end turn) (c .if1 .taken))
-
-returns-2 : tie.Need-returns-2 Inv-loop μ-loop
-returns-2 c =
     let turn = c .before .before in
-    sym (turn .before .before .loop .inv .1 ∙ size-above _ _ _ _ _ (read-is turn) (before-end turn) (c .before .if1 .left) (c .if2 .taken))
+    sym (turn .before .before .loop .inv .1 ∙ size-fails _ _ _ _ _ (read-is turn) (before-end turn) (sym (c .before .is-within .ensures) ∙ not-true _ (c .if1 .taken)))
 
 add-i : tie.Need-add-i Inv-loop μ-loop
 add-i c = omega arith
@@ -53,10 +53,10 @@ loop-less c = omega arith
 loop-again : tie.Need-loop-again Inv-loop μ-loop
 loop-again c =
     let turn = c .before .before in
-    (omega arith, turn .before .before .loop .inv .1 ∙ size-passes _ _ _ _ _ (read-is turn) (before-end turn) (c .before .if1 .left) (c .if2 .left))
+    (omega arith, turn .before .before .loop .inv .1 ∙ size-fits _ _ _ _ _ (read-is turn) (before-end turn) (sym (c .before .is-within .ensures) ∙ not-false _ (c .if1 .left)))
 
-returns-3 : tie.Need-returns-3 Inv-loop μ-loop
-returns-3 c =
+returns-2 : tie.Need-returns-2 Inv-loop μ-loop
+returns-2 c =
     let start = c .before .before .before in
     let all = words-length (start .args .n) (start .args .bytes .now) (start .pre) in
     sym (c .before .loop .inv .1 ∙ sizes-passed _ _ _ (c .before .loop .i) (omega (arith, all, c .loop-test .left)))
@@ -70,9 +70,9 @@ sizes-within-spec =
     loop-holds
     mul-word-at
     word-at-requires
+    is-within-requires
     returns
-    returns-2
     add-i
     loop-less
     loop-again
-    returns-3)
+    returns-2)

@@ -1,11 +1,11 @@
 -- `sum_of` meets its contract: the sum so far and the total of what is left are the whole total.
-use mathlib.Core.Path.{_≡_, ap}
+use mathlib.Core.Path.{_≡_, ap, _∙_}
 use Prim.Native.Nat.{_+_, _-_, _*_, _≤_}
 use native.Mathlib.Numerals.{add-one}
 use native.Mathlib.Omega.{arith}
 use lib.ListN.{length, drop, drop-of-length-le}
 use Rattle.functions.specs.Words.{total}
-use Rattle.jobs.proofs.SizeTests.{total-next}
+use Rattle.functions.proofs.Totals.{total-none, total-next}
 use Rattle.jobs.proofs.list.sum_of.Statement.{statement}
 use Rattle.jobs.proofs.list.sum_of.Tie as tie
 
@@ -44,10 +44,9 @@ loop-again c =
     (omega arith, omega (arith, small), rw add-one (omega (arith, rest, loop .inv .2)))
 
 returns : tie.Need-returns Inv-loop μ-loop
-unfolding total
 returns c =
     let loop = c .before .loop in
-    let none = ap total (drop-of-length-le (c .before .before .args .list .now) {i = loop .i} (c .loop-test .left)) in
+    let none = ap total (drop-of-length-le (c .before .before .args .list .now) {i = loop .i} (c .loop-test .left)) ∙ total-none in
     (omega (arith, none, loop .inv .2), omega arith)
 
 pub sum-of-spec : {M : Type 1} → statement M

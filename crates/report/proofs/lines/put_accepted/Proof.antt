@@ -1,5 +1,6 @@
 -- `put_accepted` meets its contract.
 use borrow.Author.Needs.{needs}
+use Rattle.report.proofs.Puts.{put-length}
 use Rattle.report.proofs.Texts.{accepted-put}
 use Rattle.report.proofs.lines.put_accepted.Statement.{statement}
 use Rattle.report.proofs.lines.put_accepted.Tie as tie
@@ -19,11 +20,15 @@ slice-aggregate-put-list-line c = search needs
 put-list-line-requires : tie.Need-put-list-line-requires
 put-list-line-requires c κs = search needs
 
-same-length : tie.Need-same-length
-same-length c = search needs
-
 returns : tie.Need-returns
-returns c = accepted-put _ _ _ (c .before .before .before .before .before .before .before .before .before .before .before .before .put-floor .ensures) (c .before .before .before .before .before .before .before .put-number-line .ensures) (c .before .before .put-list-line .ensures)
+returns c =
+    let images = c .before .before in
+    let scale = images .before .before .before .before .before in
+    let floor = scale .before .before .before .before .before in
+    accepted-put _ _ _ (floor .put-floor .ensures) (scale .put-number-line .ensures) (images .put-list-line .ensures)
+
+same-length : tie.Need-same-length
+same-length c = put-length (returns c)
 
 pub put-accepted-spec : {M : Type 1} → statement M
 put-accepted-spec =

@@ -1,5 +1,6 @@
 -- `put_floor` meets its contract.
 use borrow.Author.Needs.{needs}
+use Rattle.report.proofs.Puts.{put-length}
 use Rattle.report.proofs.Texts.{floor-none, floor-some}
 use Rattle.report.proofs.lines.put_floor.Statement.{statement}
 use Rattle.report.proofs.lines.put_floor.Tie as tie
@@ -19,11 +20,14 @@ slice-aggregate-put-number-line-2 c = search needs
 put-number-line-requires-2 : tie.Need-put-number-line-requires-2
 put-number-line-requires-2 c κs = search needs
 
-same-length : tie.Need-same-length
-same-length c = search needs
-
 returns-2 : tie.Need-returns-2
-returns-2 c = floor-some _ _ (c .before .before .before .before .before .before .before .before .before .before .if1 .left) (c .before .before .before .before .before .before .before .put-number-line .ensures) (c .before .before .put-number-line2 .ensures)
+returns-2 c =
+    let sum = c .before .before in
+    let floor = sum .before .before .before .before .before in
+    floor-some _ _ (floor .before .before .before .if1 .left) (floor .put-number-line .ensures) (sum .put-number-line2 .ensures)
+
+same-length : tie.Need-same-length
+same-length c = put-length (returns-2 c)
 
 pub put-floor-spec : {M : Type 1} → statement M
 put-floor-spec =

@@ -1,5 +1,6 @@
 -- `put_number_line` meets its contract.
 use borrow.Author.Needs.{needs}
+use Rattle.report.proofs.Puts.{put-length}
 use Rattle.report.proofs.Values.{line-put, value-put}
 use Rattle.report.proofs.lines.put_number_line.Statement.{statement}
 use Rattle.report.proofs.lines.put_number_line.Tie as tie
@@ -13,11 +14,15 @@ put-value-requires c κs = search needs
 put-byte-requires : tie.Need-put-byte-requires
 put-byte-requires c κs = search needs
 
-same-length : tie.Need-same-length
-same-length c = search needs
-
 returns : tie.Need-returns
-returns c = line-put _ _ (c .before .before .before .before .before .before .before .before .before .before .put-bytes .ensures) (value-put _ (c .before .before .before .before .before .before .put-value .ensures)) (c .before .before .put-byte .ensures)
+returns c =
+    let byte = c .before .before in
+    let value = byte .before .before .before .before in
+    let word = value .before .before .before .before in
+    line-put _ _ (word .put-bytes .ensures) (value-put _ (value .put-value .ensures)) (byte .put-byte .ensures)
+
+same-length : tie.Need-same-length
+same-length c = put-length (returns c)
 
 pub put-number-line-spec : {M : Type 1} → statement M
 put-number-line-spec =

@@ -1,6 +1,5 @@
 -- `put_byte` meets its contract.
 use borrow.Author.Needs.{needs}
-use native.Mathlib.Omega.{arith}
 use Rattle.report.proofs.Puts.{put-one, put-full}
 use Rattle.report.proofs.put.put_byte.Statement.{statement}
 use Rattle.report.proofs.put.put_byte.Tie as tie

@@ -1,5 +1,6 @@
 -- `put_value` meets its contract.
 use borrow.Author.Needs.{needs}
+use Rattle.report.proofs.Puts.{put-length}
 use Rattle.report.proofs.Values.{spaced}
 use Rattle.report.proofs.put.put_value.Statement.{statement}
 use Rattle.report.proofs.put.put_value.Tie as tie
@@ -25,11 +26,15 @@ part-put-bytes-end c = search needs
 put-bytes-requires : tie.Need-put-bytes-requires
 put-bytes-requires c κs = search needs
 
-same-length : tie.Need-same-length
-same-length c = search needs
-
 returns : tie.Need-returns
-returns c = spaced _ (c .before .before .before .before .before .before .before .before .before .before .before .spell .result) (c .before .before .before .before .before .before .before .before .before .before .before .spell .last .1 .0) (c .before .before .before .before .before .before .before .before .before .before .before .spell .kept .1 .0) (c .before .before .before .before .before .before .before .before .before .before .before .spell .ensures .1) (c .before .before .before .before .before .before .before .before .put-byte .ensures) (c .before .before .put-bytes .ensures)
+returns c =
+    let digits = c .before .before in
+    let space = digits .before .before .before .before .before .before in
+    let spelt = space .before .before .before .spell in
+    spaced _ (spelt .result) (spelt .last .1 .0) (spelt .kept .1 .0) (spelt .ensures .1) (space .put-byte .ensures) (digits .put-bytes .ensures)
+
+same-length : tie.Need-same-length
+same-length c = put-length (returns c)
 
 pub put-value-spec : {M : Type 1} → statement M
 put-value-spec =

@@ -28,7 +28,9 @@ cast-put-value : tie.Need-cast-put-value Inv-loop μ-loop
 cast-put-value c = omega (arith, c .shared-slice-known2 .given (c .before .before .before .loop .i))
 
 put-value-requires : tie.Need-put-value-requires Inv-loop μ-loop
-put-value-requires c κs = put-within (c .before .before .before .loop .inv)
+put-value-requires c κs =
+    let inv = c .before .before .before .loop .inv in
+    omega (arith, put-within inv, put-length inv)
 
 add-i : tie.Need-add-i Inv-loop μ-loop
 add-i c = omega arith

@@ -1,20 +1,17 @@
 -- `best_at` meets its contract: the loop's invariant is `Halved`, and a turn takes it two sizes on.
-use Rattle.tables.proofs.Halved.{Halved, halved-start, halved-next, halved-end}
-use mathlib.Core.Path.{_≡_, refl}
-use Prim.Native.Nat.{ℕ, _+_, _-_, _*_, _/_, _≤_, _<_, max}
+use Prim.Native.Nat.{_-_}
 use native.Mathlib.Omega.{arith}
 use borrow.Author.Needs.{needs}
-use lib.ListN.{length, getD}
-use Rattle.tables.specs.Table.{entry, best}
-use Rattle.tables.proofs.Entries.{Form, form}
+use Rattle.tables.specs.Table.{entry}
+use Rattle.tables.proofs.Halved.{Halved, halved-start, halved-next, halved-twice, halved-end}
 use Rattle.tables.proofs.fill.best_at.Statement.{statement}
 use Rattle.tables.proofs.fill.best_at.Tie as tie
 
 abbrev Inv-loop : tie.InvT-loop
-Inv-loop table working c most₀ y₀ most y = (y ≤ c / 2 + 1) × Halved table c most y
+Inv-loop table working c most₀ y₀ most y = Halved table c most y
 
 abbrev μ-loop : tie.MeasureT-loop
-μ-loop table working c most₀ y₀ most y = c / 2 + 1 - y
+μ-loop table working c most₀ y₀ most y = c - y
 
 mul-most : tie.Need-mul-most Inv-loop μ-loop
 mul-most c = omega arith
@@ -27,7 +24,9 @@ cast-most c = omega (arith, c .shared-slice-known3 .given (c .before .before .be
 
 loop-holds : tie.Need-loop-holds Inv-loop μ-loop
 unfolding entry
-loop-holds c = (omega arith, halved-start _ _ (c .before .before .before .pre .0) (c .before .before .before .pre .1))
+loop-holds c =
+    let start = c .before .before .before in
+    halved-start _ _ (start .pre .0 .form) (omega arith) (omega arith)
 
 add-loop : tie.Need-add-loop Inv-loop μ-loop
 add-loop c = omega arith
@@ -36,19 +35,13 @@ sub-loop : tie.Need-sub-loop Inv-loop μ-loop
 sub-loop c = omega arith
 
 sum-at-requires : tie.Need-sum-at-requires Inv-loop μ-loop
-sum-at-requires c κs =
-    let start = c .before .before .before .before .before in
-    let positive = c .before .loop .inv .1 .positive in
-    (omega (arith, positive), omega (arith, positive), start .pre .1, start .pre .2, start .pre .3, start .pre .4, start .pre .5)
+sum-at-requires c κs = search needs
 
 add-sum-at : tie.Need-add-sum-at Inv-loop μ-loop
 add-sum-at c = omega arith
 
 sum-at-requires-2 : tie.Need-sum-at-requires-2 Inv-loop μ-loop
-sum-at-requires-2 c κs =
-    let start = c .before .before .before .before .before .before in
-    let positive = c .before .before .loop .inv .1 .positive in
-    (omega (arith, positive), omega (arith, positive), start .pre .1, start .pre .2, start .pre .3, start .pre .4, start .pre .5)
+sum-at-requires-2 c κs = search needs
 
 greater-requires : tie.Need-greater-requires Inv-loop μ-loop
 greater-requires c κs = search needs
@@ -64,43 +57,27 @@ loop-less c = omega arith
 
 loop-again : tie.Need-loop-again Inv-loop μ-loop
 loop-again c =
-    let start = c .before .before .before .before .before .before .before .before .before in
-    let t = start .args .table .now in
-    let f = form t (start .pre .3) in
-    let loop = c .before .before .before .before .before .loop in
-    let y = loop .y in
-    let once = max (loop .most) (best t y + best t (start .args .c - y)) in
-    let first : Halved t (start .args .c) once (y + 1) = halved-next _ _ (start .pre .0) (start .pre .1) (f .first) _ y once (loop .inv .1) (omega arith) refl in
-    let second : Halved t (start .args .c) (c .greater2 .result) (y + 1 + 1) = halved-next _ _ (start .pre .0) (start .pre .1) (f .first) once (y + 1) _ first (omega arith) (omega (arith, c .greater2 .ensures, c .before .greater .ensures, c .before .before .sum-at2 .ensures, c .before .before .before .sum-at .ensures)) in
-    let two : y + 1 + 1 ≡ y + 2 = omega arith in
-    (omega arith, rw two at second)
+    let sums = c .before .before in
+    halved-twice _ _ _ _ _ (sums .before .before .before .loop .inv) (omega arith)
+    (omega (arith, c .greater2 .ensures, c .before .greater .ensures, sums .sum-at2 .ensures, sums .before .sum-at .ensures))
 
 sub-if1 : tie.Need-sub-if1 Inv-loop μ-loop
 sub-if1 c = omega arith
 
 sum-at-requires-3 : tie.Need-sum-at-requires-3 Inv-loop μ-loop
-sum-at-requires-3 c κs =
-    let start = c .before .before .before .before .before .before in
-    let positive = c .before .before .loop .inv .1 .positive in
-    (omega (arith, positive), omega (arith, positive), start .pre .1, start .pre .2, start .pre .3, start .pre .4, start .pre .5)
+sum-at-requires-3 c κs = search needs
 
 greater-requires-3 : tie.Need-greater-requires-3 Inv-loop μ-loop
 greater-requires-3 c κs = search needs
 
 returns : tie.Need-returns Inv-loop μ-loop
 returns c =
-    let start = c .before .before .before .before .before .before .before .before in
-    let f = form (start .args .table .now) (start .pre .3) in
-    let loop = c .before .before .before .before .loop in
-    let last = halved-next _ _ (start .pre .0) (start .pre .1) (f .first) _ (loop .y) (c .greater3 .result) (loop .inv .1) (omega arith) (omega (arith, c .greater3 .ensures, c .before .sum-at3 .ensures)) in
-    halved-end _ _ (start .pre .0) (start .pre .1) (f .first) _ (loop .y + 1) last (omega arith)
+    let inv = c .before .before .before .before .loop .inv in
+    let last = halved-next _ _ _ _ inv (c .greater3 .result) (omega arith) (omega (arith, c .greater3 .ensures, c .before .sum-at3 .ensures)) in
+    halved-end _ _ _ _ last (omega arith)
 
 returns-2 : tie.Need-returns-2 Inv-loop μ-loop
-returns-2 c =
-    let start = c .before .before .before .before .before .before in
-    let f = form (start .args .table .now) (start .pre .3) in
-    let loop = c .before .before .loop in
-    halved-end _ _ (start .pre .0) (start .pre .1) (f .first) _ (loop .y) (loop .inv .1) (omega arith)
+returns-2 c = halved-end _ _ _ _ (c .before .before .loop .inv) (omega arith)
 
 pub best-at-spec : {M : Type 1} → statement M
 best-at-spec =

@@ -1,13 +1,13 @@
 -- `refuse_lengths` meets its contract: its tests are the definition's, in the same order.
+use native.Mathlib.Omega.{arith}
 use borrow.Author.Tests.{lt-ltb, le-ltb}
 use Rattle.tables.specs.Check.{mostEntries, lengthRefusal}
-use borrow.Author.Needs.{needs}
 use Rattle.tables.proofs.form.refuse_lengths.Statement.{statement}
 use Rattle.tables.proofs.form.refuse_lengths.Tie as tie
 
 returns : tie.Need-returns
 unfolding lengthRefusal
-returns c = rw (lt-ltb _ 2 (c .if1 .taken))
+returns c = rw (lt-ltb (c .before .args .entries) 2 (omega (arith, c .if1 .taken)))
 
 returns-2 : tie.Need-returns-2
 unfolding lengthRefusal
@@ -18,7 +18,7 @@ unfolding lengthRefusal
 returns-3 c = rw (le-ltb _ 2 (c .before .before .if1 .left), le-ltb mostEntries _ (c .before .if2 .left), lt-ltb _ _ (c .if3 .taken))
 
 sub-if4 : tie.Need-sub-if4
-sub-if4 c = search needs
+sub-if4 c = omega arith
 
 returns-4 : tie.Need-returns-4
 unfolding lengthRefusal

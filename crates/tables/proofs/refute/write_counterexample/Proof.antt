@@ -1,11 +1,13 @@
 -- `write_counterexample` meets its contract: the loop's invariant is `Written`.
-use mathlib.Core.Path.{_≡_, refl, ap, sym, _∙_}
-use Prim.Native.Nat.{ℕ, _-_, _≤_, _<_}
+use mathlib.Core.Path.{_≡_}
+use Prim.Native.Nat.{_≤_, _<_}
 use native.Mathlib.Omega.{arith}
 use lib.ListN.{length, getD}
-use Rattle.tables.specs.Table.{best, tableCapacity, counterexample}
-use Rattle.tables.proofs.Walk.{Found, least-size, best-positive}
-use Rattle.tables.proofs.Written.{Written, counterexample-short, written-start, written-length, written-room, written-next, written-end}
+use Rattle.tables.specs.Table.{best, tableCapacity}
+use Rattle.tables.proofs.Entries.{capacity-is}
+use Rattle.tables.proofs.Filled.{fewer-bests}
+use Rattle.tables.proofs.Walk.{least-fits, best-positive}
+use Rattle.tables.proofs.Written.{Written, written-start, written-length, written-room, written-next, written-end}
 use Rattle.tables.proofs.refute.write_counterexample.Statement.{statement}
 use Rattle.tables.proofs.refute.write_counterexample.Tie as tie
 
@@ -20,32 +22,17 @@ sub-c c = omega arith
 
 loop-holds : tie.Need-loop-holds Inv-loop μ-loop
 unfolding tableCapacity
-loop-holds c = written-start _ _
+loop-holds c = written-start _ _ (c .before .before .before .pre .1)
 
 in-table : (c : tie.At-loop Inv-loop μ-loop) → c .loop .c < length (c .before .before .before .before .args .table .now)
-unfolding tableCapacity
-in-table c = omega (arith, c .loop .inv .within)
+in-table c = omega (arith, c .loop .inv .within, capacity-is (c .before .before .before .before .args .table .now))
 
 -- the place that the test reads holds best c
 place : (c : tie.At-loop Inv-loop μ-loop) → getD (c .before .before .before .before .args .working .now) (c .loop .c) 0 ≡ best (c .before .before .before .before .args .table .now) (c .loop .c)
-place c = c .before .before .before .before .pre .5 (c .loop .c) (in-table c)
+place c = c .before .before .before .before .pre .0 .holds (c .loop .c) (in-table c)
 
 some : (c : tie.Then1 Inv-loop μ-loop) → 0 < best (c .before .before .before .before .before .before .args .table .now) (c .before .before .loop .c)
 some c = omega (arith, place (c .before .before), c .if1 .taken)
-
-found : (c : tie.After-least-size Inv-loop μ-loop) → (1 ≤ c .least-size .result) × (c .least-size .result ≤ c .before .before .before .loop .c)
-found c =
-    let f = least-size _ _ (some (c .before)) in
-    omega (arith, c .least-size .ensures, f .from, f .up-to, best-positive _ _ (some (c .before)))
-
--- there is room for a size more
-room : (c : tie.After-least-size Inv-loop μ-loop) → (c .before .before .before .loop .n < length (c .before .before .before .before .before .before .before .args .list .now)) × (length (c .before .before .before .loop .list) ≡ length (c .before .before .before .before .before .before .before .args .list .now))
-room c =
-    let at-loop = c .before .before .before in
-    let start = at-loop .before .before .before .before in (
-      omega (arith, written-room _ _ _ _ _ (at-loop .loop .inv) (some (c .before)), counterexample-short (start .args .table .now) (start .args .list .now), start .pre .3),
-      written-length _ _ _ _ _ (at-loop .loop .inv) (start .pre .3),
-    )
 
 mul-if1 : tie.Need-mul-if1 Inv-loop μ-loop
 mul-if1 c = omega (arith, in-table c)
@@ -56,14 +43,16 @@ shared-slice-read-if1 c = omega (arith, in-table (c .before))
 least-size-requires : tie.Need-least-size-requires Inv-loop μ-loop
 least-size-requires c κs =
     let at-loop = c .before .before in
-    let start = at-loop .before .before .before .before in (
-      best-positive _ _ (some c),
-      in-table at-loop,
-      omega (arith, in-table at-loop),
-      start .pre .4,
-      start .pre .1,
-      λ j l. start .pre .5 j (omega (arith, in-table at-loop)),
-    )
+    (fewer-bests _ _ _ _ (at-loop .before .before .before .before .pre .0) (omega (arith, in-table at-loop)), best-positive _ _ (some c))
+
+found : (c : tie.After-least-size Inv-loop μ-loop) → (1 ≤ c .least-size .result) × (c .least-size .result ≤ c .before .before .before .loop .c)
+found c = omega (arith, c .least-size .ensures, least-fits _ _ (some (c .before)))
+
+-- there is room for a size more
+room : (c : tie.After-least-size Inv-loop μ-loop) → (c .before .before .before .loop .n < length (c .before .before .before .before .before .before .before .args .list .now)) × (length (c .before .before .before .loop .list) ≡ length (c .before .before .before .before .before .before .before .args .list .now))
+room c =
+    let inv = c .before .before .before .loop .inv in
+    (written-room _ _ _ _ _ inv (some (c .before)), written-length _ _ _ _ _ inv)
 
 cast-list : tie.Need-cast-list Inv-loop μ-loop
 cast-list c = omega (arith, in-table (c .before .before .before), found c)
@@ -84,12 +73,10 @@ loop-less : tie.Need-loop-less Inv-loop μ-loop
 loop-less c = omega (arith, found c)
 
 loop-again : tie.Need-loop-again Inv-loop μ-loop
-loop-again c =
-    let at-loop = c .before .before .before in
-    written-next _ _ _ _ _ (at-loop .loop .inv) _ (some (c .before)) (c .least-size .ensures) (omega (arith, room c))
+loop-again c = written-next _ _ _ _ _ (c .before .before .before .loop .inv) (some (c .before)) _ (c .least-size .ensures)
 
 same-length : tie.Need-same-length Inv-loop μ-loop
-same-length c = written-length _ _ _ _ _ (c .before .before .loop .inv) (c .before .before .before .before .before .before .pre .3)
+same-length c = written-length _ _ _ _ _ (c .before .before .loop .inv)
 
 returns : tie.Need-returns Inv-loop μ-loop
 returns c =

@@ -1,0 +1,209 @@
+-- The record of a job's parts, filled with one field more.
+use mathlib.Core.Path.{_≡_, refl, ap, sym, _∙_}
+use mathlib.Core.Bool.{true, _&&_, and-eq-true-iff}
+use mathlib.Core.List.{List, [], _∷_, _++_, map, map-append}
+use mathlib.Core.Logic.{_⊎_, ⊎-elim}
+use Prim.Native.Nat.{ℕ, suc, _+_, _-_, _*_, _/_, _%_, _≤_, _<_}
+use native.Mathlib.Nat.{eq-or-lt-of-le}
+use native.Mathlib.Numerals.{add-one}
+use native.Mathlib.Omega.{arith}
+use borrow.Author.Tests.{eqb-true, leb-true, eq-eqb, ne-eqb}
+use lib.Dec.{leb, eqb}
+use lib.ListN.{length, getD, take, drop, set, length-set, length-map, length-drop}
+use lib.Seq.{take-suc-set, getD-set-same, getD-set-other, length-take-le}
+use Rattle.tables.specs.Check.{mostEntries}
+use Rattle.fields.specs.Bytes.{word, words}
+use Rattle.fields.specs.Parts.{Field, fieldOf, valueOf, Step, onFamily, onTable, stepOf, jobKind, jobCapacity, jobSizes, jobSteps}
+use Rattle.fields.specs.Grammar.{mostSizes, mostSteps, lengthRight}
+use Rattle.fields.specs.Record.{spanBytes, SpanWithin, stepIn, stepsIn, familyStep, StepWithin, noStep, StepsWithin, PartsOf, NextField}
+use Rattle.fields.specs.declared.Span.{Span}
+use Rattle.fields.specs.declared.JobStep.{JobStep}
+use Rattle.fields.specs.declared.JobSteps.{JobSteps}
+use Rattle.fields.specs.declared.JobParts.{JobParts}
+use Rattle.fields.proofs.Decoding.{words-length}
+use Rattle.fields.proofs.Following.{value-other, step-more, steps-kept, no-step}
+
+-- the lengths that a tag may have, as facts
+pub kind-length : (n : ℕ) → lengthRight 1 n ≡ true → n ≡ 1
+unfolding lengthRight
+kind-length n e = eqb-true n 1 e
+
+pub capacity-length : (n : ℕ) → lengthRight 2 n ≡ true → n ≡ 4
+unfolding lengthRight
+capacity-length n e = eqb-true n 4 e
+
+pub sizes-length : (n : ℕ) → lengthRight 3 n ≡ true → (n % 4 ≡ 0) × (n ≤ 4 * mostSizes)
+unfolding lengthRight
+sizes-length n e =
+    let parts = and-eq-true-iff (eqb (n % 4) 0) (leb n (4 * mostSizes)) .0 e in
+    (eqb-true (n % 4) 0 (parts .0), leb-true n (4 * mostSizes) (parts .1))
+
+pub family-length : (n : ℕ) → lengthRight 4 n ≡ true → n ≡ 9
+unfolding lengthRight
+family-length n e = eqb-true n 9 e
+
+pub table-length : (n : ℕ) → lengthRight 5 n ≡ true → (n % 4 ≡ 0) × (8 ≤ n) × (n ≤ 4 * mostEntries)
+unfolding lengthRight
+table-length n e =
+    let parts = and-eq-true-iff (eqb (n % 4) 0) (leb 8 n && leb n (4 * mostEntries)) .0 e in
+    let range = and-eq-true-iff (leb 8 n) (leb n (4 * mostEntries)) .0 (parts .1) in
+    (eqb-true (n % 4) 0 (parts .0), leb-true 8 n (range .0), leb-true n (4 * mostEntries) (range .1))
+
+pub span-length : (job : List ℕ) (s : Span) → SpanWithin job s → length (spanBytes job s) ≡ 4 * s .n
+unfolding spanBytes
+span-length job s within = length-take-le (4 * s .n) (drop (s .at) job) (omega (arith, length-drop (s .at) job))
+
+-- the step of a record by its tag
+module _ (job : List ℕ) (s : JobStep) where
+  pub family-in : s .tag ≡ 4 → stepIn job s ≡ onFamily (s .family) (s .p) (s .q)
+  unfolding stepIn
+  family-in four = rw (eq-eqb (s .tag) 4 four)
+
+  pub table-in : (s .tag ≡ 4 → ⊥) → stepIn job s ≡ onTable (words (spanBytes job (s .table)))
+  unfolding stepIn
+  table-in other = rw (ne-eqb (s .tag) 4 other)
+
+-- as many steps as the record says
+pub steps-count : (job : List ℕ) (steps : JobSteps) → StepsWithin job steps → length (stepsIn job steps) ≡ steps .count
+unfolding stepsIn
+steps-count job steps w =
+    length-map (take (steps .count) (steps .items)) (stepIn job) ∙ length-take-le (steps .count) (steps .items) (omega (arith, w .most, w .places))
+
+-- as many sizes
+pub sizes-count : (job : List ℕ) (fields : List Field) (parts : JobParts) → PartsOf job fields parts → parts .sizes .n ≡ length (jobSizes fields)
+sizes-count job fields parts h =
+    sym (words-length (parts .sizes .n) (spanBytes job (parts .sizes)) (span-length job (parts .sizes) (h .sizes-within))) ∙ ap length (h .sizes-are)
+
+module _ (job : List ℕ) (fields : List Field) (parts : JobParts) (h : PartsOf job fields parts) (tag at : ℕ) (value : List ℕ) (n : NextField job fields tag at value) where
+  abbrev f : Field
+  f = fieldOf tag value
+
+  -- the span of a value of whole numbers
+  abbrev pub value-span : Span
+  value-span = record { at = at; n = length value / 4 }
+
+  span-is : length value % 4 ≡ 0 → spanBytes job value-span ≡ value
+  unfolding spanBytes
+  span-is whole =
+      let same : 4 * (length value / 4) ≡ length value = omega arith in
+      ap (λ (k : ℕ). take k (drop at job)) same ∙ sym (n .value-at)
+
+  span-within : SpanWithin job value-span
+  span-within = omega (arith, n .value-within)
+
+  -- the parts of other tags
+  kind-kept : (tag ≡ 1 → ⊥) → parts .kind ≡ jobKind (fields ++ (f ∷ []))
+  unfolding jobKind
+  kind-kept other = h .kind-is ∙ ap (λ (v : List ℕ). getD v 0 0) (sym (value-other f 1 fields other))
+
+  capacity-kept : (tag ≡ 2 → ⊥) → parts .capacity ≡ jobCapacity (fields ++ (f ∷ []))
+  unfolding jobCapacity
+  capacity-kept other = h .capacity-is ∙ ap (λ (v : List ℕ). word v 0) (sym (value-other f 2 fields other))
+
+  sizes-kept : (tag ≡ 3 → ⊥) → words (spanBytes job (parts .sizes)) ≡ jobSizes (fields ++ (f ∷ []))
+  unfolding jobSizes
+  sizes-kept other = h .sizes-are ∙ ap words (sym (value-other f 3 fields other))
+
+  no-step-more : tag < 4 → stepsIn job (parts .steps) ≡ jobSteps (fields ++ (f ∷ []))
+  no-step-more l = h .steps-are ∙ sym (steps-kept f fields (no-step tag l))
+
+  pub with-kind : tag ≡ 1 → PartsOf job (fields ++ (f ∷ [])) (record { kind = getD value 0 0; capacity = parts .capacity; sizes = parts .sizes; steps = parts .steps })
+  unfolding jobKind
+  with-kind e =
+      record {
+        kind-is = ap (λ (v : List ℕ). getD v 0 0) (sym (n .new (omega arith)) ∙ ap (λ (t : ℕ). valueOf t (fields ++ (f ∷ []))) e);
+        capacity-is = capacity-kept (λ o. omega arith);
+        sizes-are = sizes-kept (λ o. omega arith);
+        sizes-within = h .sizes-within;
+        sizes-most = h .sizes-most;
+        steps-are = no-step-more (omega arith);
+        steps-within = h .steps-within;
+      }
+
+  pub with-capacity : tag ≡ 2 → (d : ℕ) → d ≡ word value 0 → PartsOf job (fields ++ (f ∷ [])) (record { kind = parts .kind; capacity = d; sizes = parts .sizes; steps = parts .steps })
+  unfolding jobCapacity
+  with-capacity e d is =
+      record {
+        kind-is = kind-kept (λ o. omega arith);
+        capacity-is = is ∙ ap (λ (v : List ℕ). word v 0) (sym (n .new (omega arith)) ∙ ap (λ (t : ℕ). valueOf t (fields ++ (f ∷ []))) e);
+        sizes-are = sizes-kept (λ o. omega arith);
+        sizes-within = h .sizes-within;
+        sizes-most = h .sizes-most;
+        steps-are = no-step-more (omega arith);
+        steps-within = h .steps-within;
+      }
+
+  pub with-sizes : tag ≡ 3 → PartsOf job (fields ++ (f ∷ [])) (record { kind = parts .kind; capacity = parts .capacity; sizes = value-span; steps = parts .steps })
+  unfolding jobSizes
+  with-sizes e =
+      let right = sizes-length (length value) (rw e at (n .length-right)) in
+      record {
+        kind-is = kind-kept (λ o. omega arith);
+        capacity-is = capacity-kept (λ o. omega arith);
+        sizes-are = ap words (span-is (right .0) ∙ sym (n .new (omega arith)) ∙ ap (λ (t : ℕ). valueOf t (fields ++ (f ∷ []))) e);
+        sizes-within = span-within;
+        sizes-most = omega (arith, right .1);
+        steps-are = no-step-more (omega arith);
+        steps-within = h .steps-within;
+      }
+
+  module _ (step : 4 ≤ tag) (s : JobStep) (same : stepIn job s ≡ stepOf f) (within : StepWithin job s) (room : parts .steps .count < mostSteps) where
+    inside : parts .steps .count < length (parts .steps .items)
+    inside = omega (arith, h .steps-within .places)
+
+    abbrev steps′ : JobSteps
+    steps′ = record { items = set (parts .steps .items) (parts .steps .count) s; count = parts .steps .count + 1 }
+
+    one-more : stepsIn job steps′ ≡ stepsIn job (parts .steps) ++ (stepOf f ∷ [])
+    unfolding stepsIn
+    one-more =
+        rw add-one
+        (ap (map (stepIn job)) (take-suc-set (parts .steps .items) (parts .steps .count) s inside)
+        ∙ map-append (stepIn job) (take (parts .steps .count) (parts .steps .items)) (s ∷ [])
+        ∙ ap (λ (x : Step). map (stepIn job) (take (parts .steps .count) (parts .steps .items)) ++ (x ∷ [])) same)
+
+    last : (i : ℕ) → suc i ≡ parts .steps .count + 1 → StepWithin job (getD (steps′ .items) i noStep)
+    last i e =
+        let here : i ≡ parts .steps .count = omega arith in
+        rw (here, getD-set-same (parts .steps .items) (parts .steps .count) s noStep inside) within
+
+    earlier : (i : ℕ) → i < parts .steps .count → StepWithin job (getD (steps′ .items) i noStep)
+    earlier i l = rw (getD-set-other (parts .steps .items) (parts .steps .count) i s noStep (omega arith)) (h .steps-within .each i l)
+
+    pub with-step : PartsOf job (fields ++ (f ∷ [])) (record { kind = parts .kind; capacity = parts .capacity; sizes = parts .sizes; steps = steps′ })
+    with-step =
+        record {
+          kind-is = kind-kept (λ o. omega arith);
+          capacity-is = capacity-kept (λ o. omega arith);
+          sizes-are = sizes-kept (λ o. omega arith);
+          sizes-within = h .sizes-within;
+          sizes-most = h .sizes-most;
+          steps-are = one-more ∙ ap (λ (l : List Step). l ++ (stepOf f ∷ [])) (h .steps-are) ∙ sym (step-more f fields (n .step-tag step));
+          steps-within =
+              record {
+                places = length-set (parts .steps .items) (parts .steps .count) s ∙ h .steps-within .places;
+                most = omega arith;
+                each = λ i l. ⊎-elim (λ e. last i e) (λ k. earlier i (omega arith)) (eq-or-lt-of-le l);
+              };
+        }
+
+  pub family-same : tag ≡ 4 → stepIn job (familyStep value) ≡ stepOf f
+  unfolding stepIn stepOf
+  family-same e = rw e refl
+
+  pub family-within : StepWithin job (familyStep value)
+  family-within = record { within = omega arith; least = λ other. absurd (other refl); most = omega arith }
+
+  abbrev pub table-step : JobStep
+  table-step = record { tag = 5; family = 0; p = 0; q = 0; table = value-span }
+
+  module _ (e : tag ≡ 5) where
+    right : (length value % 4 ≡ 0) × (8 ≤ length value) × (length value ≤ 4 * mostEntries)
+    right = table-length (length value) (rw e at (n .length-right))
+
+    pub table-same : stepIn job table-step ≡ stepOf f
+    unfolding stepIn stepOf
+    table-same = rw (ne-eqb tag 4 (omega arith)) (ap (λ (v : List ℕ). onTable (words v)) (span-is (right .0)))
+
+    pub table-within : StepWithin job table-step
+    table-within = record { within = span-within; least = λ other. omega (arith, right .1); most = omega (arith, right .2) }

@@ -1,0 +1,29 @@
+-- `no_parts` meets its contract: no field has no part.
+use mathlib.Core.Path.{refl}
+use native.Mathlib.Omega.{arith}
+use Rattle.fields.specs.Bytes.{word, words, wordsFrom}
+use Rattle.fields.specs.Parts.{valueOf, jobKind, jobCapacity, jobSizes, jobSteps}
+use Rattle.fields.specs.Record.{spanBytes, stepsIn}
+use borrow.Author.Needs.{needs}
+use Rattle.fields.proofs.parts.no_parts.Statement.{statement}
+use Rattle.fields.proofs.parts.no_parts.Tie as tie
+
+table-step-requires : tie.Need-table-step-requires
+table-step-requires c κs = search needs
+
+returns : tie.Need-returns
+unfolding valueOf jobKind jobCapacity jobSizes jobSteps spanBytes stepsIn word words wordsFrom
+returns c =
+    λ job.
+    record {
+      kind-is = refl;
+      capacity-is = refl;
+      sizes-are = refl;
+      sizes-within = omega arith;
+      sizes-most = omega arith;
+      steps-are = refl;
+      steps-within = record { places = refl; most = omega arith; each = λ i l. absurd (omega arith) };
+    }
+
+pub no-parts-spec : {M : Type 1} → statement M
+no-parts-spec = tie.close (tie.spec table-step-requires returns)

@@ -1,0 +1,52 @@
+-- The parts of a job, document 01, "Jobs", each found by its tag in the job's list of fields.
+use mathlib.Core.Bool.{Bool, cond, _||_}
+use mathlib.Core.List.{List, [], _∷_}
+use Prim.Native.Nat.{ℕ}
+use lib.Dec.{eqb}
+use lib.ListN.{getD}
+use Rattle.fields.specs.Bytes.{word, words}
+
+pub record Field : Type 0 where
+  pub tag : ℕ
+  pub value : List ℕ
+
+abbrev pub fieldOf : ℕ → List ℕ → Field
+fieldOf tag value = record { tag = tag; value = value }
+
+-- the value of the first field with a tag, or nothing
+unfoldable pub valueOf : ℕ → List Field → List ℕ
+valueOf tag [] = []
+valueOf tag (f ∷ fields) = cond (eqb (f .tag) tag) (f .value) (valueOf tag fields)
+
+unfoldable pub jobKind : List Field → ℕ
+jobKind fields = getD (valueOf 1 fields) 0 0
+
+unfoldable pub jobCapacity : List Field → ℕ
+jobCapacity fields = word (valueOf 2 fields) 0
+
+unfoldable pub jobSizes : List Field → List ℕ
+jobSizes fields = words (valueOf 3 fields)
+
+-- a step: family, p and q, or the entries of a table
+pub data Step : Type 0 where
+  onFamily : ℕ → ℕ → ℕ → Step
+  onTable : List ℕ → Step
+
+unfoldable pub isStep : ℕ → Bool
+isStep tag = eqb tag 4 || eqb tag 5
+
+unfoldable pub stepOf : Field → Step
+stepOf f = cond (eqb (f .tag) 4) (onFamily (getD (f .value) 0 0) (word (f .value) 1) (word (f .value) 5)) (onTable (words (f .value)))
+
+unfoldable pub jobSteps : List Field → List Step
+jobSteps [] = []
+jobSteps (f ∷ fields) = cond (isStep (f .tag)) (stepOf f ∷ jobSteps fields) (jobSteps fields)
+
+-- the tag of the last field, or the tag given where there is none
+unfoldable pub lastTagFrom : ℕ → List Field → ℕ
+lastTagFrom tag [] = tag
+lastTagFrom tag (f ∷ fields) = lastTagFrom (f .tag) fields
+
+-- 0 before the first field
+unfoldable pub lastTag : List Field → ℕ
+lastTag fields = lastTagFrom 0 fields

@@ -1,0 +1,87 @@
+-- What the record of a job that was read stands for: the parts of the job.
+use mathlib.Core.Path.{_≡_}
+use mathlib.Core.Bool.{true, cond}
+use mathlib.Core.List.{List, [], _∷_, _++_, map}
+use Prim.Native.Nat.{ℕ, _+_, _*_, _≤_, _<_}
+use lib.Dec.{eqb}
+use lib.ListN.{length, getD, take, drop}
+use Rattle.tables.specs.Check.{mostEntries}
+use Rattle.fields.specs.Bytes.{word, words}
+use Rattle.fields.specs.Parts.{Field, fieldOf, valueOf, isStep, Step, onFamily, onTable, jobKind, jobCapacity, jobSizes, jobSteps}
+use Rattle.fields.specs.Grammar.{mostSizes, mostSteps, lengthRight}
+use Rattle.fields.specs.Reading.{refused, complete, jobFields, fieldsOf}
+use Rattle.fields.specs.declared.Span.{Span}
+use Rattle.fields.specs.declared.JobStep.{JobStep}
+use Rattle.fields.specs.declared.JobSteps.{JobSteps}
+use Rattle.fields.specs.declared.JobParts.{JobParts}
+use Rattle.fields.specs.declared.JobRead.{JobRead}
+
+-- the bytes of a span of the job, and that they are within it
+unfoldable pub spanBytes : List ℕ → Span → List ℕ
+spanBytes job s = take (4 * s .n) (drop (s .at) job)
+
+abbrev pub SpanWithin : List ℕ → Span → Type 0
+SpanWithin job s = s .at + 4 * s .n ≤ length job
+
+abbrev pub noSpan : Span
+noSpan = record { at = 0; n = 0 }
+
+unfoldable pub stepIn : List ℕ → JobStep → Step
+stepIn job s = cond (eqb (s .tag) 4) (onFamily (s .family) (s .p) (s .q)) (onTable (words (spanBytes job (s .table))))
+
+unfoldable pub stepsIn : List ℕ → JobSteps → List Step
+stepsIn job steps = map (stepIn job) (take (steps .count) (steps .items))
+
+-- a family step of nine bytes
+abbrev pub familyStep : List ℕ → JobStep
+familyStep value = record { tag = 4; family = getD value 0 0; p = word value 1; q = word value 5; table = noSpan }
+
+-- a table lies within the job, and its length is a table's
+pub record StepWithin (job : List ℕ) (s : JobStep) : Type 0 where
+  pub within : SpanWithin job (s .table)
+  pub least : (s .tag ≡ 4 → ⊥) → 2 ≤ s .table .n
+  pub most : s .table .n ≤ mostEntries
+
+abbrev pub noStep : JobStep
+noStep = record { tag = 0; family = 0; p = 0; q = 0; table = noSpan }
+
+pub record StepsWithin (job : List ℕ) (steps : JobSteps) : Type 0 where
+  pub places : length (steps .items) ≡ mostSteps
+  pub most : steps .count ≤ mostSteps
+  pub each : (i : ℕ) → i < steps .count → StepWithin job (getD (steps .items) i noStep)
+
+-- the record has the parts of these fields of the job
+pub record PartsOf (job : List ℕ) (fields : List Field) (parts : JobParts) : Type 0 where
+  pub kind-is : parts .kind ≡ jobKind fields
+  pub capacity-is : parts .capacity ≡ jobCapacity fields
+  pub sizes-are : words (spanBytes job (parts .sizes)) ≡ jobSizes fields
+  pub sizes-within : SpanWithin job (parts .sizes)
+  pub sizes-most : parts .sizes .n ≤ mostSizes
+  pub steps-are : stepsIn job (parts .steps) ≡ jobSteps fields
+  pub steps-within : StepsWithin job (parts .steps)
+
+-- a field that may follow these fields, with its value at a place of the job
+pub record NextField (job : List ℕ) (fields : List Field) (tag at : ℕ) (value : List ℕ) : Type 0 where
+  pub value-at : value ≡ take (length value) (drop at job)
+  pub value-within : at + length value ≤ length job
+  pub length-right : lengthRight tag (length value) ≡ true
+  pub step-tag : 4 ≤ tag → isStep tag ≡ true
+  pub new : tag < 4 → valueOf tag (fields ++ (fieldOf tag value ∷ [])) ≡ value
+
+-- what filling the record with a field asks: a tag with a right length, and a place where it is a step
+pub record Fillable (parts : JobParts) (tag n : ℕ) : Type 0 where
+  pub known : 1 ≤ tag
+  pub length-right : lengthRight tag n ≡ true
+  pub places : length (parts .steps .items) ≡ mostSteps
+  pub room : 4 ≤ tag → parts .steps .count < mostSteps
+
+-- the record with the field: it has the parts of these fields, and then of these and the field
+abbrev pub Filled : JobParts → ℕ → ℕ → List ℕ → JobParts → Type 0
+Filled parts tag at value next =
+    (job : List ℕ) (fields : List Field) → PartsOf job fields parts → NextField job fields tag at value → PartsOf job (fields ++ (fieldOf tag value ∷ [])) next
+
+-- the number that refuses a field, or 0 with the parts of all fields
+pub record JobReading (job : List ℕ) (r : JobRead) : Type 0 where
+  pub refused-as : (r .number ≡ 0 → ⊥) → jobFields job ≡ refused (r .number)
+  pub complete-as : r .number ≡ 0 → jobFields job ≡ complete (fieldsOf (jobFields job))
+  pub parts-are : r .number ≡ 0 → PartsOf job (fieldsOf (jobFields job)) (r .parts)

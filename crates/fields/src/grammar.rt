@@ -1,0 +1,81 @@
+// The grammar of a job: which tag may follow the last one, where a job may end, which lengths a tag
+// may have; and the refusals of a field by it.
+use crate::Header;
+use crate::MOST_SIZES;
+use crate::MOST_STEPS;
+ghost use mathlib.Core.Path.{_≡_};
+ghost use mathlib.Core.Bool.{_&&_};
+ghost use Prim.Native.Nat.{_*_, _%_};
+ghost use lib.Dec.{leb};
+ghost use Rattle.tables.specs.Check.{mostEntries};
+ghost use Rattle.fields.specs.Parts.{isStep};
+ghost use Rattle.fields.specs.Grammar.{mayFollow, mayEnd, lengthRight};
+ghost use Rattle.fields.specs.Reading.{headerRefusal};
+
+// The bytes of the longest list of sizes and of the longest table.
+const MOST_LIST_BYTES: usize = 4 * MOST_SIZES;
+
+const MOST_TABLE_BYTES: usize = 4 * tables::MOST_ENTRIES;
+
+fn is_step(tag: u8) -> bool
+    ensures { λ r. ⌜ r ≡ isStep tag ⌝ }
+{
+    if tag == 4 {
+        return true;
+    }
+    tag == 5
+}
+
+// Whether a tag may follow the last one, 0 before the first field.
+fn may_follow(kind: u8, last: u8, steps: usize, tag: u8) -> bool
+    ensures { λ r. ⌜ r ≡ mayFollow kind last steps tag ⌝ }
+{
+    match last {
+        0 => tag == 1,
+        1 => tag == 2,
+        2 => tag == 3,
+        _ => is_step(tag) && steps < MOST_STEPS,
+    }
+}
+
+// Whether a job may end behind the last tag.
+pub(crate) fn may_end(kind: u8, last: u8) -> bool
+    ensures { λ r. ⌜ r ≡ mayEnd kind last ⌝ }
+{
+    3 <= last
+}
+
+// The bytes of a table: 2 to MOST_ENTRIES entries of four.
+fn table_length_right(n: usize) -> bool
+    ensures { λ r. ⌜ r ≡ (leb 8 n && leb n (4 * mostEntries)) ⌝ }
+{
+    8 <= n && n <= MOST_TABLE_BYTES
+}
+
+fn length_right(tag: u8, n: usize) -> bool
+    ensures { λ r. ⌜ r ≡ lengthRight tag n ⌝ }
+{
+    match tag {
+        1 => n == 1,
+        2 => n == 4,
+        3 => n % 4 == 0 && n <= MOST_LIST_BYTES,
+        4 => n == 9,
+        _ => n % 4 == 0 && table_length_right(n),
+    }
+}
+
+// Refusals 13, 14 and 15 of a field, behind a last tag and a number of steps.
+pub(crate) fn refuse_field(header: Header, kind: u8, last: u8, steps: usize) -> u64
+    ensures { λ r. ⌜ r ≡ headerRefusal header kind last steps ⌝ }
+{
+    if !header.within {
+        return 13;
+    }
+    if !may_follow(kind, last, steps, header.tag) {
+        return 14;
+    }
+    if !length_right(header.tag, header.length) {
+        return 15;
+    }
+    0
+}

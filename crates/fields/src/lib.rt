@@ -1,0 +1,108 @@
+// The bytes of a job: its fields read one after the other, refusals 13 to 15, and its parts.
+mod grammar;
+mod parts;
+mod reader;
+pub mod words;
+
+ghost use mathlib.Core.Path.{_≡_};
+ghost use Prim.Native.Nat.{_*_};
+ghost use lib.ListN.{length};
+ghost use Rattle.fields.specs.Bytes.{words};
+ghost use Rattle.fields.specs.Record.{spanBytes, SpanWithin, JobReading};
+
+// The most bytes, sizes and steps of a job.
+pub const MOST_BYTES: usize = 65_535;
+
+pub const MOST_SIZES: usize = 2_048;
+
+pub const MOST_STEPS: usize = 8;
+
+// The bytes of a header: a tag and a two-byte length.
+const HEADER: usize = 3;
+
+// The header of a field, or one that is not within the rest of the job.
+pub struct Header {
+    pub within: bool,
+    pub tag: u8,
+    pub length: usize,
+}
+
+// A span of the job: where it starts, and how many four-byte numbers it has.
+pub struct Span {
+    pub at: usize,
+    pub n: usize,
+}
+
+// A step of a job, by its tag: family, p and q of a family step, or where the entries of a table are.
+pub struct JobStep {
+    pub p: u64,
+    pub q: u64,
+    pub table: Span,
+    pub tag: u8,
+    pub family: u8,
+}
+
+// The steps of one job: eight places and their number.
+pub struct JobSteps {
+    pub items: [JobStep; MOST_STEPS],
+    pub count: usize,
+}
+
+// The parts of a job.
+pub struct JobParts {
+    pub capacity: u64,
+    pub sizes: Span,
+    pub steps: JobSteps,
+    pub kind: u8,
+}
+
+// A job that was read, or the number that refuses a field.
+pub struct JobRead {
+    pub number: u64,
+    pub parts: JobParts,
+}
+
+fn unread(number: u64) -> JobRead
+    ensures { λ r. ⌜ r .number ≡ number ⌝ }
+{
+    JobRead {
+        number,
+        parts: parts::no_parts(),
+    }
+}
+
+// Reads all fields of a job, one after the other.
+pub fn read_job(job: &[u8]) -> JobRead
+    ensures { λ r. ⌜ JobReading (now (job .entry)) r ⌝ }
+{
+    let mut parts = parts::no_parts();
+    let mut last = 0;
+    let mut at = 0;
+    while at < job.len() {
+        let rest = &job[at..];
+        let header = reader::read_header(rest);
+        let number = grammar::refuse_field(header, parts.kind, last, parts.steps.count);
+        if number != 0 {
+            return unread(number);
+        }
+        let value = reader::field_value(rest, header);
+        let start = at + HEADER;
+        parts = parts::with_field(parts, header.tag, start, value);
+        last = header.tag;
+        at = start + value.len();
+    }
+    if !grammar::may_end(parts.kind, last) {
+        return unread(14);
+    }
+    JobRead { number: 0, parts }
+}
+
+// The bytes of a span of the job.
+pub fn span_bytes(job: &[u8], span: Span) -> &[u8]
+    requires { ⌜ SpanWithin (now job) span ⌝ }
+    ensures { λ r. ⌜ now r ≡ spanBytes (now (job .entry)) span ⌝ }
+{
+    let at = span.at;
+    let end = at + 4 * span.n;
+    &job[at..end]
+}

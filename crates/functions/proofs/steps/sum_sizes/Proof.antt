@@ -1,0 +1,81 @@
+-- `sum_sizes` meets its contract: each turn adds the next size's image.
+use Prim.Native.Nat.{_-_, _≤_}
+use native.Mathlib.Omega.{arith}
+use lib.ListN.{length, getD}
+use Rattle.functions.specs.Words.{limit}
+use Rattle.functions.specs.Families.{familyImage}
+use Rattle.functions.proofs.Prepared.{Imaged, asked, imaged}
+use Rattle.functions.proofs.Summed.{Summed, summed-start, summed-next, summed-end}
+use Rattle.functions.proofs.steps.sum_sizes.Statement.{statement}
+use Rattle.functions.proofs.steps.sum_sizes.Tie as tie
+
+abbrev Inv-loop : tie.InvT-loop
+Inv-loop capacity family p sizes step sum₀ i₀ sum i = Summed (familyImage capacity family p 0) limit sizes sum i
+
+abbrev μ-loop : tie.MeasureT-loop
+μ-loop capacity family p sizes step sum₀ i₀ sum i = length sizes - i
+
+-- the size that a turn reads
+within : (c : tie.After-shared-slice-known2 Inv-loop μ-loop) → getD (c .before .before .before .before .before .args .sizes .now) (c .before .before .loop .i) 0 ≤ c .before .before .before .before .before .args .capacity
+within c = c .before .before .before .before .before .pre .1 _ (c .before .loop-test .taken)
+
+-- its image
+image : (c : tie.After-image-of Inv-loop μ-loop) → Imaged (c .before .before .before .before .before .before .args .capacity) (c .before .before .before .before .before .before .args .family) (c .before .before .before .before .before .before .args .p) 0 (getD (c .before .before .before .before .before .before .args .sizes .now) (c .before .before .before .loop .i) 0) (c .image-of .result)
+image c =
+    let made = c .before .before .before .before in
+    imaged _ _ _ _ (made .before .before .pre .0) _ (made .prepare .ensures) _ (within (c .before)) _ (c .image-of .ensures)
+
+prepare-requires : tie.Need-prepare-requires Inv-loop μ-loop
+prepare-requires c κs = c .before .pre .0
+
+loop-holds : tie.Need-loop-holds Inv-loop μ-loop
+loop-holds c = summed-start _ _ _
+
+mul-image-of : tie.Need-mul-image-of Inv-loop μ-loop
+mul-image-of c = omega arith
+
+shared-slice-read-image-of : tie.Need-shared-slice-read-image-of Inv-loop μ-loop
+shared-slice-read-image-of c = omega arith
+
+cast-image-of : tie.Need-cast-image-of Inv-loop μ-loop
+cast-image-of c = omega (arith, within c)
+
+image-of-requires : tie.Need-image-of-requires Inv-loop μ-loop
+image-of-requires c κs =
+    let made = c .before .before .before in
+    asked _ _ _ _ (made .before .before .pre .0) _ (made .prepare .ensures) _ (within c)
+
+add-sum : tie.Need-add-sum Inv-loop μ-loop
+add-sum c = omega (arith, image c)
+
+add-i : tie.Need-add-i Inv-loop μ-loop
+add-i c = omega arith
+
+loop-less : tie.Need-loop-less Inv-loop μ-loop
+loop-less c = omega arith
+
+loop-again : tie.Need-loop-again Inv-loop μ-loop
+loop-again c =
+    let turn = c .before .before in
+    summed-next _ _ _ _ _ (turn .before .loop .inv) _ (turn .loop-test .taken) (image c .image-is) (image c .image-small)
+
+returns : tie.Need-returns Inv-loop μ-loop
+returns c = summed-end _ _ _ _ _ (c .before .loop .inv) (c .loop-test .left)
+
+pub sum-sizes-spec : {M : Type 1} → statement M
+sum-sizes-spec =
+    tie.close
+    (tie.spec
+    Inv-loop
+    μ-loop
+    prepare-requires
+    loop-holds
+    mul-image-of
+    shared-slice-read-image-of
+    cast-image-of
+    image-of-requires
+    add-sum
+    add-i
+    loop-less
+    loop-again
+    returns)

@@ -1,0 +1,81 @@
+-- `answer_parts` meets its contract: the refusals in their order, and then the answer.
+use mathlib.Core.Path.{refl, sym}
+use native.Mathlib.Omega.{arith}
+use lib.Seq.{length-take-le}
+use Rattle.fields.proofs.Filling.{sizes-count}
+use Rattle.jobs.proofs.Answering.{parts-refused, step-refused, fields-accepted, scale-is, parts-accepted}
+use borrow.Author.Needs.{needs}
+use Rattle.jobs.proofs.answer.answer_parts.Statement.{statement}
+use Rattle.jobs.proofs.answer.answer_parts.Tie as tie
+
+refuse-list-requires : tie.Need-refuse-list-requires
+refuse-list-requires c κs = search needs
+
+refused-requires : tie.Need-refused-requires
+refused-requires c κs = search needs
+
+returns : tie.Need-returns
+returns c = (parts-refused _ _ _ (c .before .before .before .before .before .before .before .pre .0) (c .before .before .before .before .before .before .before .args .images .now) (c .before .before .before .before .before .before .before .args .list .now) _ (c .before .before .refuse-list .ensures) (c .before .if1 .taken) _ (c .refused .ensures), refl)
+
+judge-steps-requires : tie.Need-judge-steps-requires
+judge-steps-requires c κs = search needs
+
+refused-requires-2 : tie.Need-refused-requires-2
+refused-requires-2 c κs = search needs
+
+same-length : tie.Need-same-length
+same-length c = search needs
+
+same-length-2 : tie.Need-same-length-2
+same-length-2 c = search needs
+
+returns-2 : tie.Need-returns-2
+returns-2 c = (step-refused _ _ _ (c .before .before .before .before .before .before .before .before .before .before .before .before .before .before .before .before .before .pre .0) (c .before .before .before .before .before .before .before .before .before .before .before .before .before .before .before .before .before .args .images .now) (c .before .before .before .before .before .before .before .before .before .before .before .before .before .before .before .before .before .args .list .now) _ (c .before .before .before .before .before .before .before .before .before .before .before .before .refuse-list .ensures) (c .before .before .before .before .before .before .before .before .before .before .before .if1 .left) _ _ (c .before .before .before .before .before .before .before .judge-steps .ensures) (c .before .if2 .taken) _ (c .refused2 .ensures), same-length c)
+
+slice-relend-prefix-finish : tie.Need-slice-relend-prefix-finish
+slice-relend-prefix-finish c = search needs
+
+slice-aggregate-finish : tie.Need-slice-aggregate-finish
+slice-aggregate-finish c = sym (length-take-le _ _ (omega (arith, c .before .before .before .before .before .before .before .before .before .before .before .before .before .before .before .before .before .pre .0 .sizes-most, c .before .before .before .before .before .before .before .before .before .before .before .before .before .before .before .before .before .pre .1)))
+
+finish-requires : tie.Need-finish-requires
+finish-requires c κs =
+    let pre = c .before .before .before .before .before .before .before .before .before .before .before .before .before .before .before .before .before .pre in
+    let judged = c .before .before .before .before .before .before .before .judge-steps .ensures in (
+      pre .0,
+      fields-accepted _ _ _ (c .before .before .before .before .before .before .before .before .before .before .before .before .before .before .before .before .before .pre .0) (c .before .before .before .before .before .before .before .before .before .before .before .before .before .before .before .before .before .args .images .now) (c .before .before .before .before .before .before .before .before .before .before .before .before .before .before .before .before .before .args .list .now) _ (c .before .before .before .before .before .before .before .before .before .before .before .before .refuse-list .ensures) (c .before .before .before .before .before .before .before .before .before .before .before .if1 .left) _ _ judged (c .before .if2 .left),
+      scale-is _ _ _ (c .before .before .before .before .before .before .before .before .before .before .before .before .before .before .before .before .before .pre .0) (c .before .before .before .before .before .before .before .before .before .before .before .before .before .before .before .before .before .args .images .now) (c .before .before .before .before .before .before .before .before .before .before .before .before .before .before .before .before .before .args .list .now) _ (c .before .before .before .before .before .before .before .before .before .before .before .before .refuse-list .ensures) (c .before .before .before .before .before .before .before .before .before .before .before .if1 .left) _ _ judged (c .before .if2 .left),
+      length-take-le _ _ (omega (arith, pre .0 .sizes-most, pre .1)),
+    )
+
+same-length-3 : tie.Need-same-length-3
+same-length-3 c = search needs
+
+same-length-4 : tie.Need-same-length-4
+same-length-4 c = search needs
+
+same-length-5 : tie.Need-same-length-5
+same-length-5 c = search needs
+
+returns-3 : tie.Need-returns-3
+returns-3 c = (parts-accepted _ _ _ (c .before .before .before .before .before .before .before .before .before .before .before .before .before .before .before .before .before .before .before .before .pre .0) (c .before .before .before .before .before .before .before .before .before .before .before .before .before .before .before .before .before .before .before .before .args .images .now) (c .before .before .before .before .before .before .before .before .before .before .before .before .before .before .before .before .before .before .before .before .args .list .now) _ (c .before .before .before .before .before .before .before .before .before .before .before .before .before .before .before .refuse-list .ensures) (c .before .before .before .before .before .before .before .before .before .before .before .before .before .before .if1 .left) _ _ (c .before .before .before .before .before .before .before .before .before .before .judge-steps .ensures) (c .before .before .before .before .if2 .left) _ _ _ (c .before .before .finish .ensures) (sizes-count _ _ _ (c .before .before .before .before .before .before .before .before .before .before .before .before .before .before .before .before .before .before .before .before .pre .0)), same-length-4 c)
+
+pub answer-parts-spec : {M : Type 1} → statement M
+answer-parts-spec =
+    tie.close
+    (tie.spec
+    refuse-list-requires
+    refused-requires
+    returns
+    judge-steps-requires
+    refused-requires-2
+    same-length
+    same-length-2
+    returns-2
+    slice-relend-prefix-finish
+    slice-aggregate-finish
+    finish-requires
+    same-length-3
+    same-length-4
+    same-length-5
+    returns-3)

@@ -1,0 +1,37 @@
+use Rattle.fields.proofs.Filling.{family-in, table-in}
+-- `apply_step` meets its contract: a family or a table, by the tag.
+use Rattle.jobs.proofs.Applying.{table-applied}
+use borrow.Author.Needs.{needs}
+use Rattle.jobs.proofs.apply.apply_step.Statement.{statement}
+use Rattle.jobs.proofs.apply.apply_step.Tie as tie
+
+apply-family-requires : tie.Need-apply-family-requires
+apply-family-requires c κs = rw (family-in (c .before .before .before .before .before .args .job .now) (c .before .before .before .before .before .args .s) (c .before .if1 .taken)) at (c .before .before .before .before .before .pre .1)
+
+same-length : tie.Need-same-length
+same-length c = search needs
+
+returns : tie.Need-returns
+returns c = rw (family-in (c .before .before .before .before .before .before .before .before .args .job .now) (c .before .before .before .before .before .before .before .before .args .s) (c .before .before .before .before .if1 .taken)) (c .before .before .apply-family .ensures)
+
+apply-table-requires : tie.Need-apply-table-requires
+apply-table-requires c κs =
+    let pre = c .before .before .before .before .before .pre in
+    (pre .0 .within, pre .0 .least (c .before .if1 .left), pre .0 .most)
+
+same-length-2 : tie.Need-same-length-2
+same-length-2 c = search needs
+
+returns-2 : tie.Need-returns-2
+returns-2 c = rw (table-in (c .before .before .before .before .before .before .before .before .args .job .now) (c .before .before .before .before .before .before .before .before .args .s) (c .before .before .before .before .if1 .left)) (table-applied _ _ _ _ _ (c .before .before .apply-table .ensures))
+
+pub apply-step-spec : {M : Type 1} → statement M
+apply-step-spec =
+    tie.close
+    (tie.spec
+    apply-family-requires
+    same-length
+    returns
+    apply-table-requires
+    same-length-2
+    returns-2)

@@ -1,0 +1,2 @@
+pub mod Sweeps
+pub mod Swept

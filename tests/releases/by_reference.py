@@ -1,0 +1,55 @@
+"""The answers of the independent implementation in tests/reference, in the names
+of the stored form."""
+
+import sys
+from pathlib import Path
+
+sys.path.insert(0, str(Path(__file__).resolve().parents[1] / "reference"))
+import windowfloor as wf
+
+NARROW, WIDE = 4_294_000_000, 2**63  # what place 0 of a buffer holds before the call
+
+
+def lend(given, name, least, start=NARROW):
+    return [start + i for i in range(given.get(name + "_places", least))]
+
+
+def changed(places, start=NARROW):
+    return {i: number for i, number in enumerate(places) if number != start + i}
+
+
+def named(names, numbers):
+    return dict(zip(names.split(), numbers, strict=True))
+
+
+def image(given):
+    return named("number image scale", wf.image(**given))
+
+
+def table(given):
+    entries = given["entries"]
+    working, listed = lend(given, "working", len(entries), WIDE), lend(given, "list", max(0, len(entries) - 1))
+    answer = named("number length", wf.table_check(entries, working, listed))
+    return answer | dict(working=changed(working, WIDE), list=changed(listed))
+
+
+def job(given):
+    images, listed = lend(given, "images", 2048), lend(given, "list", 2047)
+    numbers = wf.job(given["job"], images, lend(given, "working", 2048, WIDE), listed)
+    answer = named("number n floor sum scale step length", numbers)
+    return answer | dict(images=changed(images), list=changed(listed))
+
+
+def sweep(given):
+    return named("number floor p", wf.sweep(**given))
+
+
+def text(given):
+    return dict(status=0, errors=0, text=wf.program(given["job"]).decode())
+
+
+OPERATIONS = dict(image=image, table=table, job=job, sweep=sweep, text=text)
+
+
+def answer(operation, given):
+    return OPERATIONS[operation](given)

@@ -1,0 +1,32 @@
+"""Answers of earlier releases that a request changes.
+
+Each is a rule written from the words of its request, about what is given alone,
+never about what was answered or is answered now:
+
+    Rule(request, operations, applies, why, fields=(), now=None)
+
+    request     the number of the request that changes the answers
+    operations  of image, table, job, sweep, text
+    applies     whether the rule is about an input: a function of what is given,
+                a dictionary with the names of the stored form
+    why         the request's words, in a sentence
+    fields      the fields and buffers of the answer that change; if empty, all
+    now         if given, a function of the operation and what is given: the answer
+                that it must have today, as by_reference.answer
+
+A rule is about the releases before `request-N`. `fields_of` in stored.py gives
+the fields of a job."""
+
+from typing import Callable, NamedTuple, Optional
+
+
+class Rule(NamedTuple):
+    request: int
+    operations: tuple
+    applies: Callable
+    why: str
+    fields: tuple = ()
+    now: Optional[Callable] = None
+
+
+EXCEPTIONS = []

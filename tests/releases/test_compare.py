@@ -1,0 +1,130 @@
+"""Tests of the comparison: that it passes on right answers, and fails on each
+thing that it is there to find."""
+
+import contextlib
+import io
+import random
+import sys
+import tempfile
+import unittest
+from pathlib import Path
+
+sys.dont_write_bytecode = True
+from compare import compare
+from exceptions import Rule
+from stored import LIST, pack_bytes, pack_numbers, unpack_bytes, unpack_numbers
+
+IMAGE = "capacity=10 family=1 p=3 q=0 x=8 -> number=0 image=10 scale=10"
+TABLE = "entries=0,1,1,2 working_places=6 -> number=11 length=3 working=0:0,1,2,3 list=0:1,1,1"
+JOB = ("job=01000101.0200040000000a.03000400000006 -> "
+       "number=0 n=1 floor=1 sum=6 scale=10 step=0 length=0 images=0:6 list=same")
+SWEEP = "capacity=10 family=1 sizes=6*3 low=0 high=5 -> number=0 floor=3 p=5"
+TEXT = "job= -> status=0 errors=0 text='refused 14 0\\n'"
+CASES = dict(image=IMAGE, table=TABLE, job=JOB, sweep=SWEEP, text=TEXT)
+
+
+def always(given):
+    return True
+
+
+def passes(cases, exceptions=(), release="base", listed=1):
+    """Whether the comparison passes on one stored case of each operation, and what it prints."""
+    with tempfile.TemporaryDirectory() as name, contextlib.redirect_stdout(io.StringIO()) as out:
+        folder = Path(name)
+        (folder / release).mkdir()
+        (folder / LIST).write_text("".join(f"{release} {operation} {listed}\n" for operation in cases))
+        for operation, line in cases.items():
+            if line is not None:
+                (folder / release / f"{operation}.txt").write_text(line and line + "\n")
+        return compare(folder, list(exceptions)), out.getvalue()
+
+
+class Comparison(unittest.TestCase):
+    def assert_fails(self, why, *words, **more):
+        passed, printed = passes(*words, **more)
+        self.assertFalse(passed, printed)
+        self.assertIn(why, printed)
+
+    def assert_passes(self, why, *words, **more):
+        passed, printed = passes(*words, **more)
+        self.assertTrue(passed, printed)
+        self.assertIn(why, printed)
+
+    def test_right_answers(self):
+        self.assert_passes("base: 5 cases compared", CASES)
+
+    def test_changed_answers(self):
+        for operation, old, new, field in (
+                ("image", "scale=10", "scale=11", "scale"), ("image", "number=0", "number=3", "number"),
+                ("image", "scale=10", "scale=10 more=0", "more"), ("sweep", "p=5", "p=4", "p"),
+                ("table", "length=3", "length=2", "length"), ("table", "0:0,1,2,3", "0:0,1,2,4", "working"),
+                ("table", "0:0,1,2,3", "0:0,1,2,3,5", "working"), ("table", "0:1,1,1", "0:1,1", "list"),
+                ("table", "0:1,1,1", "same", "list"), ("job", "sum=6", "sum=7", "sum"),
+                ("job", "images=0:6", "images=same", "images"), ("job", "list=same", "list=2046:1", "list"),
+                ("text", "14 0\\n", "14 0", "text"), ("text", "status=0", "status=1", "status"),
+                ("text", "errors=0", "errors=2", "errors")):
+            line = CASES[operation].split(" -> ")
+            changed = line[0] + " -> " + line[1].replace(old, new)
+            self.assertNotEqual(changed, CASES[operation])
+            self.assert_fails(f"base/{operation}.txt, line 1: {field}", {operation: changed})
+
+    def test_files(self):
+        for operation, line in CASES.items():
+            self.assert_fails("has 0 cases, and 1 are listed", {operation: None})
+            self.assert_fails("has 0 cases, and 1 are listed", {operation: ""})
+            self.assert_fails("has 1 cases, and 2 are listed", {operation: line}, listed=2)
+        self.assert_fails("has 0 cases, and 0 are listed", {"image": ""}, listed=0)
+        self.assert_fails("no release is listed", {})
+
+    def test_a_rule_leaves_its_cases_out(self):
+        wrong = IMAGE.replace("image=10", "image=8")
+        rule = Rule(2, ("image",), lambda given: given["p"] == 3, "thresholds of 3")
+        self.assert_passes("request 2: 1 cases: thresholds of 3", dict(CASES, image=wrong), [rule])
+        self.assert_fails("line 1: image", dict(image=wrong))
+
+    def test_a_rule_about_no_case(self):
+        of_four = Rule(2, ("image",), lambda given: given["p"] == 4, "thresholds of 4")
+        for rule in (of_four, Rule(2, ("exact",), always, "none"), Rule(2, (), always, "none")):
+            self.assert_fails("a rule of request 2 is about no stored case", CASES, [rule])
+
+    def test_a_rule_of_some_fields(self):
+        rule = Rule(9, ("job",), always, "sums", fields=("sum",))
+        changed = JOB.replace("sum=6", "sum=0")
+        self.assert_passes("request 9: 1 cases", dict(job=changed), [rule])
+        self.assert_fails("line 1: floor", dict(job=changed.replace("floor=1", "floor=0")), [rule])
+
+    def test_what_an_answer_is_instead(self):
+        wrong = dict(image=IMAGE.replace("image=10", "image=8"))
+        for now, right in ((10, True), (9, False)):
+            rule = Rule(2, ("image",), always, "all", now=lambda operation, given: dict(number=0, image=now))
+            self.assertEqual(passes(wrong, [rule])[0], right)
+
+    def test_a_rule_is_about_earlier_releases(self):
+        rule = Rule(2, ("image",), always, "all images")
+        changed = dict(image=IMAGE.replace("image=10", "image=8"))
+        self.assert_passes("request 2: 1 cases", changed, [rule], release="request-1")
+        self.assert_fails("line 1: image", changed, [rule], release="request-2")
+
+
+class StoredForm(unittest.TestCase):
+    def test_numbers(self):
+        rng = random.Random(1)
+        for _ in range(300):
+            numbers = [rng.randint(0, rng.choice((1, 3, 2**32 - 1))) for _ in range(rng.randint(0, 9))]
+            numbers += [rng.randint(0, 5)] * rng.randint(0, 9) + list(range(40, 40 - rng.randint(0, 9), -1))
+            self.assertEqual(unpack_numbers(pack_numbers(numbers)), numbers)
+        self.assertEqual(pack_numbers([7] * 300 + [5, 7, 9, 11, 1]), "7*300,5+2*4,1")
+
+    def test_bytes(self):
+        rng = random.Random(2)
+        for _ in range(300):
+            bytes_ = [rng.choice((0, 1, rng.randrange(256))) for _ in range(rng.randint(0, 9))]
+            data = b"".join(bytes([byte]) * rng.choice((1, 2, 5, 300)) for byte in bytes_)
+            self.assertEqual(unpack_bytes(pack_bytes(data)), data)
+        self.assertEqual(pack_bytes(bytes(65_535)), "000000*21845")
+        data = bytes.fromhex("030010 00000005 00000007 00000009 0000000b")
+        self.assertEqual(unpack_bytes("030010.00000005+2*4"), data)
+
+
+if __name__ == "__main__":
+    unittest.main()
