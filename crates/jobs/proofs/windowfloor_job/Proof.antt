@@ -16,10 +16,19 @@ refused-requires c κs = search needs
 
 returns : tie.Need-returns
 returns c =
-    let n = c .before .before .refuse-buffers .ensures in
-    refused-outside (c .before .before .before .before .before .before .before .args .job .now) (c .before .before .before .before .before .before .before .args .images .now) (length (c .before .before .before .before .before .before .before .args .working .now)) (c .before .before .before .before .before .before .before .args .list .now) _ _ refl _ (buffers-refused _ _ _ _ _ n (c .before .if1 .taken)) (c .before .if1 .taken) (λ eleven. buffers-other _ _ _ _ (sym n ∙ eleven)) (c .refused .ensures)
+    let a = c .before .before .before .before .before .before .before .args in
+    let number = c .before .before .refuse-buffers .ensures in
+    let some = c .before .if1 .taken in
+    refused-outside (a .job .now) (a .images .now) (length (a .working .now)) (a .list .now) _ _ refl _ (buffers-refused _ _ _ _ _ number some) some (λ eleven. buffers-other _ _ _ _ (sym number ∙ eleven)) (c .refused .ensures)
 
-room : (c : tie.Else1) → bufferRefusal (length (c .before .before .before .before .before .before .args .job .now)) (length (c .before .before .before .before .before .before .args .images .now)) (length (c .before .before .before .before .before .before .args .working .now)) (length (c .before .before .before .before .before .before .args .list .now)) ≡ 0
+-- where the buffers are long enough, the arguments, and where the fields were read
+abbrev start : tie.Else1 → tie.Start
+start c = c .before .before .before .before .before .before
+
+abbrev read : tie.Else2 → tie.After-read-job
+read c = c .before .before
+
+room : (c : tie.Else1) → bufferRefusal (length (start c .args .job .now)) (length (start c .args .images .now)) (length (start c .args .working .now)) (length (start c .args .list .now)) ≡ 0
 room c = sym (c .before .refuse-buffers .ensures) ∙ c .if1 .left
 
 read-job-requires : tie.Need-read-job-requires
@@ -30,14 +39,18 @@ refused-requires-2 c κs = search needs
 
 returns-2 : tie.Need-returns-2
 returns-2 c =
-    let reading = c .before .before .before .read-job .ensures in
-    refused-outside (c .before .before .before .before .before .before .before .before .before .before .args .job .now) (c .before .before .before .before .before .before .before .before .before .before .args .images .now) (length (c .before .before .before .before .before .before .before .before .before .before .args .working .now)) (c .before .before .before .before .before .before .before .before .before .before .args .list .now) _ _ refl _ (reading-refused _ _ _ _ (room (c .before .before .before .before)) _ reading (c .before .if2 .taken)) (c .before .if2 .taken) (unread-other _ _ (reading .refused-as (c .before .if2 .taken))) (c .refused2 .ensures)
+    let job = c .before .before .before in
+    let a = start (job .before) .args in
+    let some = c .before .if2 .taken in
+    let reading = job .read-job .ensures in
+    refused-outside (a .job .now) (a .images .now) (length (a .working .now)) (a .list .now) _ _ refl _ (reading-refused _ _ _ _ (room (job .before)) _ reading some) some (unread-other _ _ (reading .refused-as some)) (c .refused2 .ensures)
 
 answer-parts-requires : tie.Need-answer-parts-requires
 answer-parts-requires c κs =
-    let a = c .before .before .before .before .before .before .before .before .before .before .before .before .before .args in
-    let places = rooms _ (a .images .now) (a .working .now) (a .list .now) (room (c .before .before .before .before .before .before .before)) in
-    (c .before .before .before .before .before .before .read-job .ensures .parts-are (c .before .before .before .before .if2 .left), places .0, places .1)
+    let passed = c .before .before .before .before in
+    let a = start (read passed .before) .args in
+    let places = rooms _ (a .images .now) (a .working .now) (a .list .now) (room (read passed .before)) in
+    (read passed .read-job .ensures .parts-are (passed .if2 .left), places .0, places .1)
 
 same-length : tie.Need-same-length
 same-length c = search needs
@@ -49,7 +62,12 @@ same-length-3 : tie.Need-same-length-3
 same-length-3 c = search needs
 
 returns-3 : tie.Need-returns-3
-returns-3 c = judged-job (c .before .before .before .before .before .before .before .before .before .before .before .before .before .before .before .before .before .before .before .before .args .job .now) (c .before .before .before .before .before .before .before .before .before .before .before .before .before .before .before .before .before .before .before .before .args .images .now) (length (c .before .before .before .before .before .before .before .before .before .before .before .before .before .before .before .before .before .before .before .before .args .working .now)) (c .before .before .before .before .before .before .before .before .before .before .before .before .before .before .before .before .before .before .before .before .args .list .now) _ _ (same-length-2 c) _ _ (reading-passed _ _ _ _ (room (c .before .before .before .before .before .before .before .before .before .before .before .before .before .before)) _ (c .before .before .before .before .before .before .before .before .before .before .before .before .before .read-job .ensures) (c .before .before .before .before .before .before .before .before .before .before .before .if2 .left)) (c .before .before .before .before .before .before .answer-parts .ensures .0)
+returns-3 c =
+    let answered = c .before .before .before .before .before .before in
+    let passed = answered .before .before .before .before .before in
+    let a = start (read passed .before) .args in
+    let judged = reading-passed _ _ _ _ (room (read passed .before)) _ (read passed .read-job .ensures) (passed .if2 .left) in
+    judged-job (a .job .now) (a .images .now) (length (a .working .now)) (a .list .now) _ _ (same-length-2 c) _ _ judged (answered .answer-parts .ensures .0)
 
 pub windowfloor-job-spec : {M : Type 1} → statement M
 windowfloor-job-spec =

@@ -8,6 +8,13 @@ use borrow.Author.Needs.{needs}
 use Rattle.jobs.proofs.answer.answer_parts.Statement.{statement}
 use Rattle.jobs.proofs.answer.answer_parts.Tie as tie
 
+-- the arguments, where the list was judged, and where the steps were
+abbrev start : tie.After-refuse-list → tie.Start
+start c = c .before .before .before .before .before
+
+abbrev listed : tie.After-judge-steps → tie.Else1
+listed c = c .before .before .before .before
+
 refuse-list-requires : tie.Need-refuse-list-requires
 refuse-list-requires c κs = search needs
 
@@ -15,7 +22,10 @@ refused-requires : tie.Need-refused-requires
 refused-requires c κs = search needs
 
 returns : tie.Need-returns
-returns c = (parts-refused _ _ _ (c .before .before .before .before .before .before .before .pre .0) (c .before .before .before .before .before .before .before .args .images .now) (c .before .before .before .before .before .before .before .args .list .now) _ (c .before .before .refuse-list .ensures) (c .before .if1 .taken) _ (c .refused .ensures), refl)
+returns c =
+    let l = c .before .before in
+    let s = start l in
+    (parts-refused _ _ _ (s .pre .0) (s .args .images .now) (s .args .list .now) _ (l .refuse-list .ensures) (c .before .if1 .taken) _ (c .refused .ensures), refl)
 
 judge-steps-requires : tie.Need-judge-steps-requires
 judge-steps-requires c κs = search needs
@@ -30,21 +40,29 @@ same-length-2 : tie.Need-same-length-2
 same-length-2 c = search needs
 
 returns-2 : tie.Need-returns-2
-returns-2 c = (step-refused _ _ _ (c .before .before .before .before .before .before .before .before .before .before .before .before .before .before .before .before .before .pre .0) (c .before .before .before .before .before .before .before .before .before .before .before .before .before .before .before .before .before .args .images .now) (c .before .before .before .before .before .before .before .before .before .before .before .before .before .before .before .before .before .args .list .now) _ (c .before .before .before .before .before .before .before .before .before .before .before .before .refuse-list .ensures) (c .before .before .before .before .before .before .before .before .before .before .before .if1 .left) _ _ (c .before .before .before .before .before .before .before .judge-steps .ensures) (c .before .if2 .taken) _ (c .refused2 .ensures), same-length c)
+returns-2 c =
+    let j = c .before .before .before .before .before .before .before in
+    let l = listed j in
+    let s = start (l .before) in
+    (step-refused _ _ _ (s .pre .0) (s .args .images .now) (s .args .list .now) _ (l .before .refuse-list .ensures) (l .if1 .left) _ _ (j .judge-steps .ensures) (c .before .if2 .taken) _ (c .refused2 .ensures), same-length c)
 
 slice-relend-prefix-finish : tie.Need-slice-relend-prefix-finish
 slice-relend-prefix-finish c = search needs
 
 slice-aggregate-finish : tie.Need-slice-aggregate-finish
-slice-aggregate-finish c = sym (length-take-le _ _ (omega (arith, c .before .before .before .before .before .before .before .before .before .before .before .before .before .before .before .before .before .pre .0 .sizes-most, c .before .before .before .before .before .before .before .before .before .before .before .before .before .before .before .before .before .pre .1)))
+slice-aggregate-finish c =
+    let pre = start (listed (c .before .before .before .before .before .before .before) .before) .pre in
+    sym (length-take-le _ _ (omega (arith, pre .0 .sizes-most, pre .1)))
 
 finish-requires : tie.Need-finish-requires
 finish-requires c κs =
-    let pre = c .before .before .before .before .before .before .before .before .before .before .before .before .before .before .before .before .before .pre in
-    let judged = c .before .before .before .before .before .before .before .judge-steps .ensures in (
+    let j = c .before .before .before .before .before .before .before in
+    let l = listed j in
+    let s = start (l .before) in
+    let pre = s .pre in (
       pre .0,
-      fields-accepted _ _ _ (c .before .before .before .before .before .before .before .before .before .before .before .before .before .before .before .before .before .pre .0) (c .before .before .before .before .before .before .before .before .before .before .before .before .before .before .before .before .before .args .images .now) (c .before .before .before .before .before .before .before .before .before .before .before .before .before .before .before .before .before .args .list .now) _ (c .before .before .before .before .before .before .before .before .before .before .before .before .refuse-list .ensures) (c .before .before .before .before .before .before .before .before .before .before .before .if1 .left) _ _ judged (c .before .if2 .left),
-      scale-is _ _ _ (c .before .before .before .before .before .before .before .before .before .before .before .before .before .before .before .before .before .pre .0) (c .before .before .before .before .before .before .before .before .before .before .before .before .before .before .before .before .before .args .images .now) (c .before .before .before .before .before .before .before .before .before .before .before .before .before .before .before .before .before .args .list .now) _ (c .before .before .before .before .before .before .before .before .before .before .before .before .refuse-list .ensures) (c .before .before .before .before .before .before .before .before .before .before .before .if1 .left) _ _ judged (c .before .if2 .left),
+      fields-accepted _ _ _ (s .pre .0) (s .args .images .now) (s .args .list .now) _ (l .before .refuse-list .ensures) (l .if1 .left) _ _ (j .judge-steps .ensures) (c .before .if2 .left),
+      scale-is _ _ _ (s .pre .0) (s .args .images .now) (s .args .list .now) _ (l .before .refuse-list .ensures) (l .if1 .left) _ _ (j .judge-steps .ensures) (c .before .if2 .left),
       length-take-le _ _ (omega (arith, pre .0 .sizes-most, pre .1)),
     )
 
@@ -58,7 +76,13 @@ same-length-5 : tie.Need-same-length-5
 same-length-5 c = search needs
 
 returns-3 : tie.Need-returns-3
-returns-3 c = (parts-accepted _ _ _ (c .before .before .before .before .before .before .before .before .before .before .before .before .before .before .before .before .before .before .before .before .pre .0) (c .before .before .before .before .before .before .before .before .before .before .before .before .before .before .before .before .before .before .before .before .args .images .now) (c .before .before .before .before .before .before .before .before .before .before .before .before .before .before .before .before .before .before .before .before .args .list .now) _ (c .before .before .before .before .before .before .before .before .before .before .before .before .before .before .before .refuse-list .ensures) (c .before .before .before .before .before .before .before .before .before .before .before .before .before .before .if1 .left) _ _ (c .before .before .before .before .before .before .before .before .before .before .judge-steps .ensures) (c .before .before .before .before .if2 .left) _ _ _ (c .before .before .finish .ensures) (sizes-count _ _ _ (c .before .before .before .before .before .before .before .before .before .before .before .before .before .before .before .before .before .before .before .before .pre .0)), same-length-4 c)
+returns-3 c =
+    let finished = c .before .before in
+    let passed = finished .before .before in
+    let j = passed .before .before .before .before .before .before in
+    let l = listed j in
+    let s = start (l .before) in
+    (parts-accepted _ _ _ (s .pre .0) (s .args .images .now) (s .args .list .now) _ (l .before .refuse-list .ensures) (l .if1 .left) _ _ (j .judge-steps .ensures) (passed .if2 .left) _ _ _ (finished .finish .ensures) (sizes-count _ _ _ (s .pre .0)), same-length-4 c)
 
 pub answer-parts-spec : {M : Type 1} → statement M
 answer-parts-spec =
