@@ -5,7 +5,7 @@ use crate::MOST_SIZES;
 use crate::MOST_STEPS;
 ghost use mathlib.Core.Path.{_≡_};
 ghost use mathlib.Core.Bool.{_&&_};
-ghost use Prim.Native.Nat.{_*_, _%_};
+ghost use Prim.Native.Nat.{_*_};
 ghost use lib.Dec.{leb};
 ghost use Rattle.tables.specs.Check.{mostEntries};
 ghost use Rattle.fields.specs.Parts.{isStep};

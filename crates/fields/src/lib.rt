@@ -5,9 +5,6 @@ mod reader;
 pub mod words;
 
 ghost use mathlib.Core.Path.{_≡_};
-ghost use Prim.Native.Nat.{_*_};
-ghost use lib.ListN.{length};
-ghost use Rattle.fields.specs.Bytes.{words};
 ghost use Rattle.fields.specs.Record.{spanBytes, SpanWithin, JobReading};
 
 // The most bytes, sizes and steps of a job.

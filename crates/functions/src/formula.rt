@@ -2,7 +2,7 @@
 // remainder of the capacity, comes in as a number, so that a loop over sizes computes it once.
 use crate::round_up;
 ghost use mathlib.Core.Path.{_≡_};
-ghost use Prim.Native.Nat.{ℕ, _+_, _-_, _*_, _/_, _%_, _^_, _≤_, _<_, min};
+ghost use Prim.Native.Nat.{ℕ, _-_, _*_, _^_, _≤_, _<_, min};
 ghost use Rattle.functions.specs.Words.{limit};
 ghost use Rattle.functions.specs.Families.{mirror, threshold, rounding, quotient, vanderbeck};
 ghost use Rattle.functions.specs.Families.{burdettJohnson, letchfordLodi, dashGunluk};
