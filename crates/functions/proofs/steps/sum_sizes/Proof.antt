@@ -25,57 +25,25 @@ image c =
     let made = c .before .before .before .before in
     imaged _ _ _ _ (made .before .before .pre .0) _ (made .prepare .ensures) _ (within (c .before)) _ (c .image-of .ensures)
 
-prepare-requires : tie.Need-prepare-requires Inv-loop μ-loop
-prepare-requires c κs = c .before .pre .0
-
-loop-holds : tie.Need-loop-holds Inv-loop μ-loop
-loop-holds c = summed-start _ _ _
-
-mul-image-of : tie.Need-mul-image-of Inv-loop μ-loop
-mul-image-of c = omega arith
-
-shared-slice-read-image-of : tie.Need-shared-slice-read-image-of Inv-loop μ-loop
-shared-slice-read-image-of c = omega arith
-
-cast-image-of : tie.Need-cast-image-of Inv-loop μ-loop
-cast-image-of c = omega (arith, within c)
-
-image-of-requires : tie.Need-image-of-requires Inv-loop μ-loop
-image-of-requires c κs =
-    let made = c .before .before .before in
-    asked _ _ _ _ (made .before .before .pre .0) _ (made .prepare .ensures) _ (within c)
-
-add-sum : tie.Need-add-sum Inv-loop μ-loop
-add-sum c = omega (arith, image c)
-
-add-i : tie.Need-add-i Inv-loop μ-loop
-add-i c = omega arith
-
-loop-less : tie.Need-loop-less Inv-loop μ-loop
-loop-less c = omega arith
-
-loop-again : tie.Need-loop-again Inv-loop μ-loop
-loop-again c =
-    let turn = c .before .before in
-    summed-next _ _ _ _ _ (turn .before .loop .inv) _ (turn .loop-test .taken) (image c .image-is) (image c .image-small)
-
-returns : tie.Need-returns Inv-loop μ-loop
-returns c = summed-end _ _ _ _ _ (c .before .loop .inv) (c .loop-test .left)
-
+-- what the loop asks, in the order of the code
 pub sum-sizes-spec : {M : Type 1} → statement M
 sum-sizes-spec =
     tie.close
     (tie.spec
     Inv-loop
     μ-loop
-    prepare-requires
-    loop-holds
-    mul-image-of
-    shared-slice-read-image-of
-    cast-image-of
-    image-of-requires
-    add-sum
-    add-i
-    loop-less
-    loop-again
-    returns)
+    (λ c κs. c .before .pre .0)
+    (λ c. summed-start _ _ _)
+    (λ c. omega arith)
+    (λ c. omega arith)
+    (λ c. omega (arith, within c))
+    (λ c κs.
+    let made = c .before .before .before in
+    asked _ _ _ _ (made .before .before .pre .0) _ (made .prepare .ensures) _ (within c))
+    (λ c. omega (arith, image c))
+    (λ c. omega arith)
+    (λ c. omega arith)
+    (λ c.
+    let turn = c .before .before in
+    summed-next _ _ _ _ _ (turn .before .loop .inv) _ (turn .loop-test .taken) (image c .image-is) (image c .image-small))
+    (λ c. summed-end _ _ _ _ _ (c .before .loop .inv) (c .loop-test .left)))
