@@ -14,12 +14,15 @@ CC = gcc
 CXX = g++
 WARNINGS = -Wall -Wextra -Wpedantic -Werror
 CFLAGS = -std=c99 -O2 -g $(WARNINGS) -Iinclude
+CXXFLAGS = -std=c++98 -O2 -g $(WARNINGS) -Iinclude
+SANITIZED = -fsanitize=address,undefined -fno-sanitize-recover=all
 LIBRARY = target/libwindowfloor.a
 # The crates with functions for C. rt makes no archive of any other: what these reach in the crates
 # below is in their own.
 EXPORTING = functions tables jobs sweeps
 ARCHIVES = $(EXPORTING:%=target/staticlib/lib%.a)
 COMPARE = tests/c/compare.c tests/c/inputs.c tests/c/reference.c
+SOURCES = $(wildcard examples/*.c tests/c/*.c tests/releases/*.c bench/*.c)
 COMPILERS := gcc $(shell command -v clang >/dev/null && echo clang)
 sources = crates.txt $(shell find $(1:%=crates/%) -name '*.rt' -o -name '*.antt')
 
@@ -71,14 +74,26 @@ target/compare: $(COMPARE) $(wildcard tests/c/*.h) include/windowfloor.h $(LIBRA
 	$(CC) $(CFLAGS) $(COMPARE) $(LIBRARY) $(LDLIBS) -o $@
 
 target/compare-sanitized: $(COMPARE) $(wildcard tests/c/*.h) include/windowfloor.h $(LIBRARY)
-	$(CC) $(CFLAGS) -fsanitize=address,undefined -fno-sanitize-recover=all \
-		$(COMPARE) $(LIBRARY) $(LDLIBS) -o $@
+	$(CC) $(CFLAGS) $(SANITIZED) $(COMPARE) $(LIBRARY) $(LDLIBS) -o $@
 
+target/refusals: tests/c/refusals.c include/windowfloor.h
+	$(CC) $(CFLAGS) $< -o $@
+
+target/refusals-cxx: tests/c/refusals.c include/windowfloor.h
+	$(CXX) $(CXXFLAGS) -x c++ $< -o $@
+
+# Every C source by each compiler; the header as C and as C++, included, since a compiler may call the
+# functions of the file itself unused.
 header:
-	$(CC) -std=c99 $(WARNINGS) -fsyntax-only -x c include/windowfloor.h
-	$(CXX) -std=c++98 $(WARNINGS) -fsyntax-only -x c++ include/windowfloor.h
+	for compiler in $(COMPILERS); do $$compiler $(CFLAGS) -fsyntax-only $(SOURCES) || exit 1; done
+	echo '#include "windowfloor.h"' | $(CC) $(CFLAGS) -fsyntax-only -x c -
+	echo '#include "windowfloor.h"' | $(CXX) $(CXXFLAGS) -fsyntax-only -x c++ -
 
-test: header target/compare target/compare-sanitized target/planner
+test: header target/compare target/compare-sanitized target/planner \
+		target/refusals target/refusals-cxx
+	target/refusals >target/refusals.txt || { cat target/refusals.txt; exit 1; }
+	target/refusals-cxx | diff target/refusals.txt -
+	python3 -B tests/c/header.py target/refusals.txt
 	target/compare
 	target/compare-sanitized 2 5000
 	tests/c/planner.sh target/planner

@@ -1,5 +1,5 @@
 /* windowfloor: floors (lower bounds on the windows that a list of sizes needs) and cuts, by
- * dual-feasible functions. Link target/libwindowfloor.a; no other library is needed.
+ * dual-feasible functions. Link libwindowfloor.a; no other library is needed.
  *
  * Every operation ends, is defined for all numbers and lengths, keeps no state and allocates
  * nothing. An answer's `number` is 0 when the call is accepted, else the number of its refusal;
@@ -19,20 +19,21 @@
 extern "C" {
 #endif
 
-/* Limits. */
-enum {
-    WINDOWFLOOR_LIMIT = 1000000000,     /* the greatest capacity, parameter, scale and table entry */
-    WINDOWFLOOR_FAMILIES = 7,           /* families are 1 to 7 */
-    WINDOWFLOOR_SWEEP_FAMILIES = 5,     /* those without q, 1 to 5, can be swept */
-    WINDOWFLOOR_MOST_ENTRIES = 2048,    /* entries of a table; its capacity is one less */
-    WINDOWFLOOR_MOST_SIZES = 2048,      /* sizes of a job or of a sweep */
-    WINDOWFLOOR_MOST_STEPS = 8,         /* steps of a job */
-    WINDOWFLOOR_MOST_JOB_BYTES = 65535, /* bytes of a job */
-    WINDOWFLOOR_MOST_SPAN = 4095,       /* high - low of a sweep */
-    WINDOWFLOOR_JOB_IMAGES = 2048,      /* least places of a job's image buffer, whatever the job */
-    WINDOWFLOOR_JOB_WORKING = 2048,     /* least places of a job's working buffer */
-    WINDOWFLOOR_JOB_LIST = 2047         /* least places of a job's list buffer */
-};
+/* The version of this header and of the library: CHANGELOG.md says what came with it. */
+#define WINDOWFLOOR_VERSION "1.1.0"
+
+/* Limits: unsigned constants. */
+#define WINDOWFLOOR_LIMIT 1000000000u     /* the greatest capacity, parameter, scale and table entry */
+#define WINDOWFLOOR_FAMILIES 7u           /* families are 1 to 7 */
+#define WINDOWFLOOR_SWEEP_FAMILIES 5u     /* those without q, 1 to 5, can be swept */
+#define WINDOWFLOOR_MOST_ENTRIES 2048u    /* entries of a table; its capacity is one less */
+#define WINDOWFLOOR_MOST_SIZES 2048u      /* sizes of a job or of a sweep */
+#define WINDOWFLOOR_MOST_STEPS 8u         /* steps of a job */
+#define WINDOWFLOOR_MOST_JOB_BYTES 65535u /* bytes of a job */
+#define WINDOWFLOOR_MOST_SPAN 4095u       /* high - low of a sweep */
+#define WINDOWFLOOR_JOB_IMAGES 2048u      /* least places of a job's image buffer, whatever the job */
+#define WINDOWFLOOR_JOB_WORKING 2048u     /* least places of a job's working buffer */
+#define WINDOWFLOOR_JOB_LIST 2047u        /* least places of a job's list buffer */
 
 /* The bytes of a job: fields of a tag, a two-byte length and a value. Tags 1, 2, 3 once each in this
  * order, then 0 to 8 steps. Numbers are unsigned, high byte first. */
@@ -47,30 +48,60 @@ enum {
     WINDOWFLOOR_KIND_CUT = 2
 };
 
-/* The numbers of refusal. */
+/* The numbers of refusal. windowfloor_refusal_text has the words; its "limit" is WINDOWFLOOR_LIMIT. */
 enum {
     WINDOWFLOOR_ACCEPTED = 0,
-    WINDOWFLOOR_BAD_CAPACITY = 1,       /* the capacity is 0 or over 1,000,000,000 */
-    WINDOWFLOOR_BAD_FAMILY = 2,         /* no such family */
-    WINDOWFLOOR_BAD_PARAMETER = 3,      /* p or q is not legal for the family */
-    WINDOWFLOOR_SCALE_TOO_LARGE = 4,    /* the scale would pass 1,000,000,000 */
-    WINDOWFLOOR_SIZE_OVER_CAPACITY = 5, /* the size is over the capacity */
-    WINDOWFLOOR_BAD_COUNT = 6,          /* a table of under 2 or over 2,048 entries; over 2,048 sizes in a sweep */
-    WINDOWFLOOR_SHORT_BUFFER = 7,       /* a lent buffer is too short */
-    WINDOWFLOOR_FIRST_ENTRY_NOT_0 = 8,  /* the table's first entry is not 0 */
-    WINDOWFLOOR_LAST_ENTRY_0 = 9,       /* the table's last entry is 0 */
-    WINDOWFLOOR_ENTRY_TOO_LARGE = 10,   /* a table entry is over 1,000,000,000 */
-    WINDOWFLOOR_NOT_DUAL_FEASIBLE = 11, /* the table is not dual-feasible: the list buffer shows it */
-    WINDOWFLOOR_JOB_TOO_LONG = 12,      /* the job has more than 65,535 bytes */
-    WINDOWFLOOR_PAST_THE_END = 13,      /* a field's header or value runs past the end of the job */
-    WINDOWFLOOR_BAD_TAG = 14,           /* a tag out of place or unknown, a ninth step, or no tag 3 */
-    WINDOWFLOOR_BAD_LENGTH = 15,        /* a field of a wrong length */
-    WINDOWFLOOR_BAD_KIND = 16,          /* the kind is neither 1 (floor) nor 2 (cut) */
-    WINDOWFLOOR_BAD_SIZE = 17,          /* a size is over the capacity, or is 0 in a list (not in a row) */
-    WINDOWFLOOR_OTHER_CAPACITY = 18,    /* a table step of another capacity than the present one */
-    WINDOWFLOOR_BAD_RANGE = 19,         /* the range of p is empty or has more than 4,096 values */
-    WINDOWFLOOR_NO_LEGAL_P = 20         /* no p of the range is legal with a scale within the limit */
+    WINDOWFLOOR_BAD_CAPACITY = 1,
+    WINDOWFLOOR_BAD_FAMILY = 2,
+    WINDOWFLOOR_BAD_PARAMETER = 3,
+    WINDOWFLOOR_SCALE_TOO_LARGE = 4,
+    WINDOWFLOOR_SIZE_OVER_CAPACITY = 5,
+    WINDOWFLOOR_BAD_COUNT = 6, /* of a table's entries, or of a sweep's sizes */
+    WINDOWFLOOR_SHORT_BUFFER = 7,
+    WINDOWFLOOR_FIRST_ENTRY_NOT_0 = 8,
+    WINDOWFLOOR_LAST_ENTRY_0 = 9,
+    WINDOWFLOOR_ENTRY_TOO_LARGE = 10,
+    WINDOWFLOOR_NOT_DUAL_FEASIBLE = 11, /* the list buffer shows it */
+    WINDOWFLOOR_JOB_TOO_LONG = 12,
+    WINDOWFLOOR_PAST_THE_END = 13, /* a field's header or value */
+    WINDOWFLOOR_BAD_TAG = 14,      /* out of place or unknown, a ninth step, or no tag 3 */
+    WINDOWFLOOR_BAD_LENGTH = 15,
+    WINDOWFLOOR_BAD_KIND = 16,
+    WINDOWFLOOR_BAD_SIZE = 17, /* a row may have coefficients 0 */
+    WINDOWFLOOR_OTHER_CAPACITY = 18,
+    WINDOWFLOOR_BAD_RANGE = 19,
+    WINDOWFLOOR_NO_LEGAL_P = 20
 };
+#define WINDOWFLOOR_LAST_REFUSAL 20u /* the greatest of them */
+
+/* A number of refusal in words, for messages; defined for every number. */
+static inline const char *windowfloor_refusal_text(uint64_t number)
+{
+    static const char *const texts[] = {
+        "accepted",
+        "the capacity is 0 or over the limit",
+        "no such family",
+        "p or q is not legal for the family",
+        "the scale would pass the limit",
+        "the size is over the capacity",
+        "a table has too few or too many entries, or a sweep too many sizes",
+        "a lent buffer is too short",
+        "the table's first entry is not 0",
+        "the table's last entry is 0",
+        "a table entry is over the limit",
+        "the table is not dual-feasible",
+        "the job has too many bytes",
+        "a field runs past the end of the job",
+        "a tag is out of place, or the job ends before its sizes",
+        "a field has a wrong length",
+        "the kind is neither 1 (floor) nor 2 (cut)",
+        "a size is 0 in a list, or over the capacity",
+        "a table step is of another capacity than the present one",
+        "the range of p is empty or too wide",
+        "no p of the range is legal with a scale within the limit"
+    };
+    return number < sizeof texts / sizeof *texts ? texts[number] : "unknown number of refusal";
+}
 
 /* The image of a size under one family. q is 0 for families 1 to 5.
  * Refusals, in order: 1, 2, 3, 4, 5. */

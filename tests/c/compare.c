@@ -1,5 +1,6 @@
-/* Compares the library with the reference on random inputs: every field of the answers, every place
- * of the buffers, and the places before and behind them.
+/* Compares the library with the reference on random inputs, on the largest, and on jobs with fields of
+ * many lengths: every field of the answers, every place of the buffers, and the places before and behind
+ * them.
  *
  *     compare [SEED [ROUNDS]]
  *
@@ -16,15 +17,15 @@
 
 enum { DEFAULT_SEED = 1, DEFAULT_ROUNDS = 50000 };
 enum operation { IMAGE, TABLE, JOB, SWEEP, OPERATIONS };
-enum { NUMBERS = 21 };
+enum { NUMBERS = WINDOWFLOOR_LAST_REFUSAL + 1, STEPS = WINDOWFLOOR_MOST_STEPS + 1 };
 
 static const char *const names[OPERATIONS] = {"image", "table check", "job", "sweep"};
 
 /* What was seen: how often each number came from each operation, and from how many steps a job got
  * through, or at which it was refused. */
 static unsigned long seen[OPERATIONS][NUMBERS];
-static unsigned long accepted_steps[WINDOWFLOOR_MOST_STEPS + 1];
-static unsigned long refused_step[WINDOWFLOOR_MOST_STEPS + 1];
+static unsigned long accepted_steps[STEPS];
+static unsigned long refused_step[STEPS];
 
 /* Inputs lie right before memory that cannot be read, so that a read past their end is a crash. */
 
@@ -119,16 +120,27 @@ static void print_bytes(const void *input, size_t bytes)
     printf("\n");
 }
 
+/* Why an input fails, or NULL: what differs, or that a number is none of the header's. */
+static const char *fault_of(const void *library, const void *reference, size_t answer_bytes,
+                            int rest_same)
+{
+    if (!rest_same)
+        return "differs in a buffer";
+    if (memcmp(library, reference, answer_bytes) != 0)
+        return "differs in the answer";
+    return *(const uint64_t *)library < NUMBERS ? NULL : "gives a number past the last refusal";
+}
+
 /* Counts the input if all is the same; else prints it and ends. */
 static void judge(enum operation operation, const void *library, const void *reference,
                   size_t answer_bytes, int rest_same, const void *input, size_t input_bytes)
 {
-    uint64_t number = *(const uint64_t *)reference;
-    if (memcmp(library, reference, answer_bytes) == 0 && rest_same) {
-        seen[operation][number]++;
+    const char *fault = fault_of(library, reference, answer_bytes, rest_same);
+    if (fault == NULL) {
+        seen[operation][*(const uint64_t *)library]++;
         return;
     }
-    printf("%s differs in %s\n", names[operation], rest_same ? "the answer" : "a buffer");
+    printf("%s %s\n", names[operation], fault);
     print_answer("library", library, answer_bytes / 8);
     print_answer("reference", reference, answer_bytes / 8);
     print_bytes(input, input_bytes);
@@ -167,12 +179,32 @@ static void compare_table(void)
           in.entries, bytes);
 }
 
+static int is_step(uint8_t tag)
+{
+    return tag == WINDOWFLOOR_TAG_FAMILY || tag == WINDOWFLOOR_TAG_TABLE;
+}
+
+/* The steps of an accepted job. */
 static size_t steps_of(const struct job_input *in)
 {
-    size_t at = 0, fields = 0;
-    for (; at < in->length; fields++)
+    size_t steps = 0;
+    for (size_t at = 0; at < in->length;) {
+        steps += is_step(in->bytes[at]);
         at += 3 + (size_t)in->bytes[at + 1] * 256 + in->bytes[at + 2];
-    return fields - 3;
+    }
+    return steps;
+}
+
+static void count_steps(const struct job_input *in, const struct windowfloor_job_answer *answer)
+{
+    unsigned long *counts = answer->number == 0 ? accepted_steps : refused_step;
+    uint64_t steps = answer->number == 0 ? steps_of(in) : answer->step;
+    if (steps >= STEPS) {
+        printf("job is accepted with too many steps, or refused at one past the last\n");
+        print_bytes(in->bytes, in->length);
+        exit(1);
+    }
+    counts[steps]++;
 }
 
 static void compare_job(const struct job_input *in)
@@ -194,10 +226,7 @@ static void compare_job(const struct job_input *in)
           same_buffers(&images) && same_margins(&working) && same_buffers(&list)
               && memcmp(job, in->bytes, in->length) == 0,
           in->bytes, in->length);
-    if (reference.number == 0)
-        accepted_steps[steps_of(in)]++;
-    else
-        refused_step[reference.step]++;
+    count_steps(in, &library);
 }
 
 static void compare_sweep(const struct sweep_input *in)
@@ -210,6 +239,16 @@ static void compare_sweep(const struct sweep_input *in)
         reference_sweep(in->capacity, in->family, sizes, in->n, in->low, in->high);
     judge(SWEEP, &library, &reference, sizeof library, memcmp(sizes, in->sizes, bytes) == 0,
           in, sizeof *in);
+}
+
+static void compare_lengths(size_t from, size_t to)
+{
+    static struct job_input job;
+    for (unsigned tag = WINDOWFLOOR_TAG_KIND; tag <= WINDOWFLOOR_TAG_TABLE; tag++)
+        for (size_t length = from; length <= to; length++) {
+            job_of_length(&job, tag, length);
+            compare_job(&job);
+        }
 }
 
 static void compare_largest(void)
@@ -279,7 +318,7 @@ static unsigned long report(enum operation operation, int *lacking)
 static void report_steps(const char *what, const unsigned long *counts, int *lacking)
 {
     printf("%s", what);
-    for (int steps = 0; steps <= WINDOWFLOOR_MOST_STEPS; steps++) {
+    for (int steps = 0; steps < STEPS; steps++) {
         printf("  %d:%lu", steps, counts[steps]);
         if (counts[steps] == 0)
             *lacking = printf(" MISSING");
@@ -298,6 +337,8 @@ int main(int argc, char **argv)
     seed_inputs(seed);
     make_edge();
     make_pattern();
+    compare_lengths(0, 20);
+    compare_lengths(8180, 8200); /* about the most of sizes and of a table */
     compare_largest();
     for (unsigned long i = 0; i < rounds; i++)
         compare_round();

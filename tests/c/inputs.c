@@ -449,6 +449,24 @@ void random_job(struct job_input *in)
     lend_places(in, 100);
 }
 
+static void put_ones(struct job_input *in, unsigned tag, size_t length)
+{
+    put_header(in, tag, length);
+    while (length-- > 0)
+        put_byte(in, 1);
+}
+
+void job_of_length(struct job_input *in, unsigned tag, size_t length)
+{
+    in->length = in->fields = 0;
+    put_ones(in, 1, tag == 1 ? length : 1);
+    put_ones(in, 2, tag == 2 ? length : 4);
+    put_ones(in, 3, tag == 3 ? length : 8);
+    if (tag > 3)
+        put_ones(in, tag, length);
+    lend_places(in, 1000000);
+}
+
 /* Entries that never pass their size fit every list into the capacity. */
 static void put_largest_table(struct job_input *in)
 {

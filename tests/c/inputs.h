@@ -43,6 +43,9 @@ void random_table(struct table_input *in);
 void random_job(struct job_input *in);
 void random_sweep(struct sweep_input *in);
 
+/* A job with a field of this tag whose value has this length. */
+void job_of_length(struct job_input *in, unsigned tag, size_t length);
+
 /* Inputs as large as they get. */
 void largest_job(struct job_input *in, size_t bytes); /* seven tables of 2,048 entries */
 void longest_chain(struct job_input *in);             /* 2,048 sizes, eight family steps */
