@@ -240,63 +240,147 @@ struct windowfloor_table_answer reference_table_check(const uint32_t *table, siz
     return answer;
 }
 
-/* Jobs: the fields */
+/* Jobs: the fields
+ *
+ * A machine takes the bytes one by one, each once, and keeps the numbers that the values are made of. It
+ * sees a wrong tag or length before it knows whether the value is all there: so it remembers the fault
+ * and tells it behind the value's last byte. If the job ends before that byte, 13 is told instead. */
 
-enum { HEAD_FIELDS = 3, MOST_FIELDS = 3 + 8 };
+enum { MOST_STEPS = 8, MOST_FIELDS = 3 + MOST_STEPS, MOST_BYTES = 65535, TAGS = 256 };
+
+/* The part of a field that the next byte belongs to. */
+enum part { TAG, LENGTH_HIGH, LENGTH_LOW, VALUE };
+
+/* What has been read when a field starts. */
+enum place { OUT_OF_PLACE, AT_START, BEHIND_KIND, BEHIND_CAPACITY, BEHIND_SIZES, BEHIND_STEP, PLACES };
+
+/* Which tags may come at a place, and the place behind each. */
+static const uint8_t place_behind[PLACES][TAGS] = {
+    [AT_START] = {[1] = BEHIND_KIND},
+    [BEHIND_KIND] = {[2] = BEHIND_CAPACITY},
+    [BEHIND_CAPACITY] = {[3] = BEHIND_SIZES},
+    [BEHIND_SIZES] = {[4] = BEHIND_STEP, [5] = BEHIND_STEP},
+    [BEHIND_STEP] = {[4] = BEHIND_STEP, [5] = BEHIND_STEP},
+};
+
+static const uint8_t may_end[PLACES] = {[BEHIND_SIZES] = 1, [BEHIND_STEP] = 1};
+
+/* A tag's lengths, and how many bytes the first number of its value has, and each of the others. */
+static const struct layout {
+    size_t least, most, multiple, first, other;
+} layouts[TAGS] = {
+    [1] = {1, 1, 1, 1, 0},
+    [2] = {4, 4, 4, 4, 0},
+    [3] = {0, 4 * 2048, 4, 4, 4},
+    [4] = {9, 9, 9, 1, 4},
+    [5] = {8, 4 * 2048, 4, 4, 4},
+};
 
 struct field {
     unsigned tag;
-    size_t length;
-    const uint8_t *value;
+    size_t count;
+    const uint32_t *numbers;
 };
 
 struct fields {
-    size_t count;
+    size_t count, numbers_kept;
     struct field at[MOST_FIELDS];
+    uint32_t numbers[MOST_BYTES]; /* of all fields; each takes a byte of the job, or more */
 };
 
-static uint32_t four_bytes(const uint8_t *at)
+struct machine {
+    enum part part;
+    enum place place;
+    size_t steps;
+    unsigned tag;    /* of the present field, as all below */
+    uint64_t fault;  /* 14, 15 or 0 */
+    size_t left;     /* bytes of the value that are still to come */
+    size_t lacking;  /* bytes that the present number still lacks */
+    uint32_t number; /* the present number, so far */
+};
+
+static void take_tag(struct machine *m, uint8_t tag)
 {
-    return ((uint32_t)at[0] << 24) | ((uint32_t)at[1] << 16) | ((uint32_t)at[2] << 8) | at[3];
+    m->tag = tag;
+    m->place = place_behind[m->place][tag];
+    m->steps += m->place == BEHIND_STEP;
+    m->fault = m->place == OUT_OF_PLACE || m->steps > MOST_STEPS ? 14 : 0;
 }
 
-/* Whether the tag may come behind so many fields. */
-static int tag_in_place(unsigned tag, size_t before)
+static void start_value(struct machine *m, struct fields *fields)
 {
-    if (before < HEAD_FIELDS)
-        return tag == before + 1;
-    return before < MOST_FIELDS && (tag == 4 || tag == 5);
+    const struct layout *layout = &layouts[m->tag];
+    if (m->fault != 0)
+        return;
+    if (m->left < layout->least || m->left > layout->most || m->left % layout->multiple != 0) {
+        m->fault = 15;
+        return;
+    }
+    struct field f = {m->tag, 0, fields->numbers + fields->numbers_kept};
+    fields->at[fields->count++] = f;
+    m->lacking = layout->first;
+    m->number = 0;
 }
 
-static int length_right(unsigned tag, size_t length)
+static void take_value(struct machine *m, uint8_t byte, struct fields *fields)
 {
-    switch (tag) {
-    case 1: return length == 1;
-    case 2: return length == 4;
-    case 3: return length % 4 == 0 && length / 4 <= 2048;
-    case 4: return length == 9;
-    default: return length % 4 == 0 && length >= 8 && length <= 8192;
+    m->left--;
+    if (m->fault != 0)
+        return;
+    m->number = m->number * 256 + byte;
+    m->lacking--;
+    if (m->lacking > 0)
+        return;
+    fields->numbers[fields->numbers_kept++] = m->number;
+    fields->at[fields->count - 1].count++;
+    m->lacking = layouts[m->tag].other;
+    m->number = 0;
+}
+
+static void take_byte(struct machine *m, uint8_t byte, struct fields *fields)
+{
+    switch (m->part) {
+    case TAG:
+        take_tag(m, byte);
+        m->part = LENGTH_HIGH;
+        break;
+    case LENGTH_HIGH:
+        m->left = 256 * (size_t)byte;
+        m->part = LENGTH_LOW;
+        break;
+    case LENGTH_LOW:
+        m->left += byte;
+        start_value(m, fields);
+        m->part = m->left > 0 ? VALUE : TAG;
+        break;
+    case VALUE:
+        take_value(m, byte, fields);
+        m->part = m->left > 0 ? VALUE : TAG;
+        break;
     }
 }
 
 static uint64_t read_fields(const uint8_t *job, size_t bytes, struct fields *fields)
 {
-    fields->count = 0;
-    for (size_t at = 0; at < bytes;) {
-        size_t left = bytes - at;
-        if (left < 3)
-            return 13;
-        struct field f = {job[at], (size_t)job[at + 1] * 256 + job[at + 2], job + at + 3};
-        if (left - 3 < f.length)
-            return 13;
-        if (!tag_in_place(f.tag, fields->count))
-            return 14;
-        if (!length_right(f.tag, f.length))
-            return 15;
-        fields->at[fields->count++] = f;
-        at += 3 + f.length;
+    struct machine m = {TAG, AT_START, 0, 0, 0, 0, 0, 0};
+    fields->count = fields->numbers_kept = 0;
+    for (size_t i = 0; i < bytes; i++) {
+        take_byte(&m, job[i], fields);
+        if (m.part == TAG && m.fault != 0)
+            return m.fault;
     }
-    return fields->count < HEAD_FIELDS ? 14 : 0;
+    if (m.part != TAG)
+        return 13;
+    return may_end[m.place] ? 0 : 14;
+}
+
+/* The field of a tag that comes once. */
+static struct field field_of(const struct fields *fields, unsigned tag)
+{
+    size_t i = 0;
+    while (fields->at[i].tag != tag)
+        i++;
+    return fields->at[i];
 }
 
 /* Jobs: the steps, applied to a list of the reference's own */
@@ -309,7 +393,7 @@ struct chain {
 
 static uint64_t family_step(struct field f, struct chain *chain)
 {
-    struct step s = {chain->scale, f.value[0], four_bytes(f.value + 1), four_bytes(f.value + 5)};
+    struct step s = {chain->scale, f.numbers[0], f.numbers[1], f.numbers[2]};
     uint64_t number = step_refusal(s);
     if (number != 0)
         return number;
@@ -321,21 +405,17 @@ static uint64_t family_step(struct field f, struct chain *chain)
 
 static uint64_t table_step(struct field f, struct chain *chain, uint32_t *list, uint64_t *length)
 {
-    static uint32_t table[2048];
     static uint64_t working[2048];
-    size_t entries = f.length / 4;
-    for (size_t i = 0; i < entries; i++)
-        table[i] = four_bytes(f.value + 4 * i);
     struct windowfloor_table_answer checked =
-        reference_table_check(table, entries, working, 2048, list, 2047);
+        reference_table_check(f.numbers, f.count, working, 2048, list, 2047);
     *length = checked.length;
     if (checked.number != 0)
         return checked.number;
-    if (entries - 1 != chain->scale)
+    if (f.count - 1 != chain->scale)
         return 18;
     for (size_t i = 0; i < chain->n; i++)
-        chain->images[i] = table[chain->images[i]];
-    chain->scale = table[entries - 1];
+        chain->images[i] = f.numbers[chain->images[i]];
+    chain->scale = f.numbers[f.count - 1];
     return 0;
 }
 
@@ -355,25 +435,26 @@ static uint64_t list_refusal(unsigned kind, const struct chain *chain)
 
 static void start_chain(const struct fields *fields, struct chain *chain)
 {
-    chain->scale = four_bytes(fields->at[1].value);
-    chain->n = fields->at[2].length / 4;
-    for (size_t i = 0; i < chain->n; i++)
-        chain->images[i] = four_bytes(fields->at[2].value + 4 * i);
+    struct field sizes = field_of(fields, 3);
+    chain->scale = field_of(fields, 2).numbers[0];
+    chain->n = sizes.count;
+    memcpy(chain->images, sizes.numbers, sizes.count * sizeof *sizes.numbers);
 }
 
 /* A refusal's number, step and length go into the answer. */
 static void run_steps(const struct fields *fields, struct chain *chain, uint32_t *list,
                       struct windowfloor_job_answer *answer)
 {
-    for (size_t i = HEAD_FIELDS; i < fields->count; i++) {
+    uint64_t step = 0;
+    for (size_t i = 0; i < fields->count && answer->number == 0; i++) {
         struct field f = fields->at[i];
-        answer->number = f.tag == 4 ? family_step(f, chain)
-                                    : table_step(f, chain, list, &answer->length);
-        if (answer->number != 0) {
-            answer->step = i - HEAD_FIELDS + 1;
-            return;
-        }
+        step += f.tag == 4 || f.tag == 5;
+        if (f.tag == 4)
+            answer->number = family_step(f, chain);
+        if (f.tag == 5)
+            answer->number = table_step(f, chain, list, &answer->length);
     }
+    answer->step = answer->number == 0 ? 0 : step;
 }
 
 static void accept(unsigned kind, const struct chain *chain, uint32_t *images,
@@ -395,11 +476,11 @@ struct windowfloor_job_answer reference_job(const uint8_t *job, size_t bytes,
                                             uint32_t *list, size_t list_places)
 {
     static struct chain chain;
+    static struct fields fields;
     struct windowfloor_job_answer answer;
-    struct fields fields;
     memset(&answer, 0, sizeof answer);
     (void)working;
-    if (bytes > 65535)
+    if (bytes > MOST_BYTES)
         answer.number = 12;
     else if (images_places < 2048 || working_places < 2048 || list_places < 2047)
         answer.number = 7;
@@ -407,7 +488,7 @@ struct windowfloor_job_answer reference_job(const uint8_t *job, size_t bytes,
         answer.number = read_fields(job, bytes, &fields);
     if (answer.number != 0)
         return answer;
-    unsigned kind = fields.at[0].value[0];
+    unsigned kind = field_of(&fields, 1).numbers[0];
     start_chain(&fields, &chain);
     answer.number = list_refusal(kind, &chain);
     if (answer.number == 0)

@@ -1,5 +1,6 @@
 /* The four operations once more, written from the scope document alone and with no thought of speed,
- * to be compared with the library. */
+ * to be compared with the library. A job is read by a machine that takes byte for byte; the library and
+ * the implementation in Python go from field to field. */
 #ifndef REFERENCE_H
 #define REFERENCE_H
 
