@@ -76,6 +76,9 @@ target/compare: $(COMPARE) $(wildcard tests/c/*.h) include/windowfloor.h $(LIBRA
 target/compare-sanitized: $(COMPARE) $(wildcard tests/c/*.h) include/windowfloor.h $(LIBRARY)
 	$(CC) $(CFLAGS) $(SANITIZED) $(COMPARE) $(LIBRARY) $(LDLIBS) -o $@
 
+target/planner-sanitized: examples/planner.c include/windowfloor.h $(LIBRARY)
+	$(CC) $(CFLAGS) $(SANITIZED) $< $(LIBRARY) $(LDLIBS) -o $@
+
 target/refusals: tests/c/refusals.c include/windowfloor.h
 	$(CC) $(CFLAGS) $< -o $@
 
@@ -89,7 +92,7 @@ header:
 	echo '#include "windowfloor.h"' | $(CC) $(CFLAGS) -fsyntax-only -x c -
 	echo '#include "windowfloor.h"' | $(CXX) $(CXXFLAGS) -fsyntax-only -x c++ -
 
-test: header target/compare target/compare-sanitized target/planner \
+test: header target/compare target/compare-sanitized target/planner target/planner-sanitized \
 		target/refusals target/refusals-cxx
 	target/refusals >target/refusals.txt || { cat target/refusals.txt; exit 1; }
 	target/refusals-cxx | diff target/refusals.txt -
@@ -97,6 +100,7 @@ test: header target/compare target/compare-sanitized target/planner \
 	target/compare
 	target/compare-sanitized 2 5000
 	tests/c/planner.sh target/planner
+	tests/c/planner.sh target/planner-sanitized
 
 target/releases-answers: tests/releases/answers.c include/windowfloor.h $(LIBRARY)
 	$(CC) $(CFLAGS) $< $(LIBRARY) $(LDLIBS) -o $@
