@@ -1,10 +1,14 @@
 # The library for C, its example, tests and benchmarks. All output goes under target/.
 #
 #     make            target/libwindowfloor.a and the example, target/planner
-#     make test       the header as C and C++, the library against a C reference, the example
+#     make install    header, library, file for pkg-config and hand-over program, under PREFIX
+#                     (/usr/local); with DESTDIR, for packagers, in the folder DESTDIR/PREFIX
+#     make uninstall  removes these, with the same PREFIX and DESTDIR
+#     make test       the header as C and C++, the library against a C reference, the example, an
+#                     installation under target/
 #     make program    the hand-over program against the independent implementation
 #     make releases   the library and the program against the answers of earlier releases
-#     make outside    these and the tests of the independent implementation: all but `rt ci`
+#     make outside    these three and the tests of the independent implementation: all but `rt ci`
 #     make bench      the library against plain and tuned C
 #     make clean      removes target/
 #
@@ -16,6 +20,7 @@ WARNINGS = -Wall -Wextra -Wpedantic -Werror
 CFLAGS = -std=c99 -O2 -g $(WARNINGS) -Iinclude
 CXXFLAGS = -std=c++98 -O2 -g $(WARNINGS) -Iinclude
 SANITIZED = -fsanitize=address,undefined -fno-sanitize-recover=all
+PREFIX = /usr/local
 LIBRARY = target/libwindowfloor.a
 # The crates with functions for C. rt makes no archive of any other: what these reach in the crates
 # below is in their own.
@@ -23,6 +28,8 @@ EXPORTING = functions tables jobs sweeps
 ARCHIVES = $(EXPORTING:%=target/staticlib/lib%.a)
 COMPARE = tests/c/compare.c tests/c/inputs.c tests/c/reference.c
 SOURCES = $(wildcard examples/*.c tests/c/*.c tests/releases/*.c bench/*.c)
+INSTALLED = include/windowfloor.h lib/libwindowfloor.a lib/pkgconfig/windowfloor.pc bin/windowfloor
+VERSION = $(shell sed -n 's/.*define WINDOWFLOOR_VERSION "\(.*\)"/\1/p' include/windowfloor.h)
 COMPILERS := gcc $(shell command -v clang >/dev/null && echo clang)
 sources = crates.txt $(shell find $(1:%=crates/%) -name '*.rt' -o -name '*.antt')
 
@@ -56,8 +63,10 @@ target/staticlib/libtables.a: target/proved-functions.log | target/staticlib/lib
 target/staticlib/libjobs.a: target/proved-fields.log | target/staticlib/libtables.a
 target/staticlib/libsweeps.a: target/proved-jobs.log | target/staticlib/libjobs.a
 
+# touch: rt leaves the program as it is where nothing that it is made of has changed.
 target/bin/windowfloor: $$(call sources,report windowfloor) target/proved-jobs.log
 	rt check windowfloor >target/windowfloor.log 2>&1 || { cat target/windowfloor.log; exit 1; }
+	touch $@
 
 # Functions start at a cache line, so that their speed does not depend on what is linked before them.
 $(LIBRARY): $(ARCHIVES)
@@ -93,7 +102,7 @@ header:
 	echo '#include "windowfloor.h"' | $(CXX) $(CXXFLAGS) -fsyntax-only -x c++ -
 
 test: header target/compare target/compare-sanitized target/planner target/planner-sanitized \
-		target/refusals target/refusals-cxx
+		target/refusals target/refusals-cxx target/bin/windowfloor
 	target/refusals >target/refusals.txt || { cat target/refusals.txt; exit 1; }
 	target/refusals-cxx | diff target/refusals.txt -
 	python3 -B tests/c/header.py target/refusals.txt
@@ -101,6 +110,7 @@ test: header target/compare target/compare-sanitized target/planner target/plann
 	target/compare-sanitized 2 5000
 	tests/c/planner.sh target/planner
 	tests/c/planner.sh target/planner-sanitized
+	CC='$(CC)' tests/c/install.sh
 
 target/releases-answers: tests/releases/answers.c include/windowfloor.h $(LIBRARY)
 	$(CC) $(CFLAGS) $< $(LIBRARY) $(LDLIBS) -o $@
@@ -129,7 +139,20 @@ bench: $(COMPILERS:%=target/bench-%)
 target/bench-%: $(wildcard bench/*.c bench/*.h) include/windowfloor.h $(LIBRARY)
 	$* -std=c99 -O3 $(WARNINGS) -Iinclude bench/*.c $(LIBRARY) $(LDLIBS) -o $@
 
+# PREFIX stands in the file for pkg-config, so it is absolute; DESTDIR does not.
+install: $(LIBRARY) target/bin/windowfloor
+	@case '$(PREFIX)' in /*) ;; *) echo 'PREFIX is to be an absolute path' >&2; exit 1;; esac
+	sed -e 's|@PREFIX@|$(PREFIX)|' -e 's|@VERSION@|$(VERSION)|' include/windowfloor.pc.in >target/windowfloor.pc
+	install -d $(foreach folder,include lib lib/pkgconfig bin,'$(DESTDIR)$(PREFIX)/$(folder)')
+	install -m 644 include/windowfloor.h '$(DESTDIR)$(PREFIX)/include'
+	install -m 644 $(LIBRARY) '$(DESTDIR)$(PREFIX)/lib'
+	install -m 644 target/windowfloor.pc '$(DESTDIR)$(PREFIX)/lib/pkgconfig'
+	install -m 755 target/bin/windowfloor '$(DESTDIR)$(PREFIX)/bin'
+
+uninstall:
+	rm -f $(foreach file,$(INSTALLED),'$(DESTDIR)$(PREFIX)/$(file)')
+
 clean:
 	rm -rf target
 
-.PHONY: all header test program releases reference outside bench clean
+.PHONY: all install uninstall header test program releases reference outside bench clean
