@@ -42,7 +42,7 @@ enum {
     WINDOWFLOOR_TAG_CAPACITY = 2, /* length 4 */
     WINDOWFLOOR_TAG_SIZES = 3,    /* length 4n, n up to 2,048: sizes, or the coefficients of a row */
     WINDOWFLOOR_TAG_FAMILY = 4,   /* length 9: a step: family byte, p, q */
-    WINDOWFLOOR_TAG_TABLE = 5,    /* length 8 to 8,192: a step: four bytes for each entry */
+    WINDOWFLOOR_TAG_TABLE = 5,    /* length 8 to 8,192, a multiple of 4: a step: its entries */
 
     WINDOWFLOOR_KIND_FLOOR = 1,
     WINDOWFLOOR_KIND_CUT = 2
@@ -80,7 +80,7 @@ static inline const char *windowfloor_refusal_text(uint64_t number)
     static const char *const texts[] = {
         "accepted",
         "the capacity is 0 or over the limit",
-        "no such family",
+        "the family is not 1 to 7, or in a sweep not 1 to 5",
         "p or q is not legal for the family",
         "the scale would pass the limit",
         "the size is over the capacity",
@@ -92,7 +92,7 @@ static inline const char *windowfloor_refusal_text(uint64_t number)
         "the table is not dual-feasible",
         "the job has too many bytes",
         "a field runs past the end of the job",
-        "a tag is out of place, or the job ends before its sizes",
+        "a tag is out of place or unknown, or the job ends before its sizes",
         "a field has a wrong length",
         "the kind is neither 1 (floor) nor 2 (cut)",
         "a size is 0 in a list, or over the capacity",

@@ -57,6 +57,26 @@ module _ (f : Field) where
   unfolding lastTag
   last-more fields = last-from 0 fields
 
+-- a field's refusals in order: 13 whatever the tag and the length are, 14 whatever the length is
+module _ (h : Header) (kind last steps : ℕ) where
+  pub thirteen : h .within ≡ false → headerRefusal h kind last steps ≡ 13
+  unfolding headerRefusal
+  thirteen past-the-end = rw past-the-end
+
+  module _ (within : h .within ≡ true) where
+    pub fourteen : mayFollow kind last steps (h .tag) ≡ false → headerRefusal h kind last steps ≡ 14
+    unfolding headerRefusal
+    fourteen out-of-place = rw (within, out-of-place)
+
+    module _ (in-place : mayFollow kind last steps (h .tag) ≡ true) where
+      pub fifteen : lengthRight (h .tag) (h .length) ≡ false → headerRefusal h kind last steps ≡ 15
+      unfolding headerRefusal
+      fifteen wrong = rw (within, in-place, wrong)
+
+      pub fine-field : lengthRight (h .tag) (h .length) ≡ true → headerRefusal h kind last steps ≡ 0
+      unfolding headerRefusal
+      fine-field right = rw (within, in-place, right)
+
 -- a field that is not refused
 pub record Passed (h : Header) (kind last steps : ℕ) : Type 0 where
   pub within : h .within ≡ true

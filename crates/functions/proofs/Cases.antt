@@ -1,6 +1,6 @@
--- Proofs by cases: two numbers by their order, and a test that did not refuse.
+-- Proofs by cases: two numbers by their order, and tests that did not refuse.
 use mathlib.Core.Path.{_≡_, refl}
-use mathlib.Core.Bool.{Bool, true, false, cond}
+use mathlib.Core.Bool.{Bool, true, false, cond, _||_, true≢false}
 use mathlib.Core.Logic.{_⊎_, inl, inr, ⊎-elim}
 use Prim.Native.Nat.{ℕ, _≤_, _<_}
 use native.Mathlib.Nat.{eq-zero-or-pos}
@@ -33,6 +33,16 @@ order a b = go (lt-or-ge a b) (lt-or-ge b a)
 pub not-refused : (test : Bool) (number rest : ℕ) → 0 < number → cond test number rest ≡ 0 → (test ≡ false) × (rest ≡ 0)
 not-refused true number rest l e = absurd (omega arith)
 not-refused false number rest l e = (refl, e)
+
+-- neither of two tests holds
+pub neither : (a b : Bool) → a || b ≡ false → (a ≡ false) × (b ≡ false)
+neither true b e = absurd (true≢false e)
+neither false b e = (refl, e)
+
+-- a number by a test is below what both are below
+pub cond-below : (test : Bool) (k a b : ℕ) → a < k → b < k → cond test a b < k
+cond-below true k a b l m = l
+cond-below false k a b l m = m
 
 -- a number that lets a second one decide where it is 0: it is not what came out, so the second is
 pub then-decided : (n m k : ℕ) → (0 < n → n ≡ k → ⊥) → cond (eqb n 0) m n ≡ k → (n ≡ 0) × (m ≡ k)

@@ -130,7 +130,7 @@ module _ (c p : ℕ) (pos : 0 < c) (least : 1 ≤ p) where
       none : x ≡ 0 → vanderbeck c p x + min x 1 ≡ (p * x) up c
       none e =
           let nothing : ((p * x) up c) ≡ (0 up c) = ap (λ (n : ℕ). n up c) (omega (arith, ap (λ (n : ℕ). p * n) e)) in
-          omega (arith, ap (vanderbeck c p) e, vanderbeck-zero, nothing, up-zero c pos)
+          omega (arith, ap (vanderbeck c p) e, vanderbeck-zero, nothing, up-zero c)
 
       some : 0 < x → vanderbeck c p x + min x 1 ≡ (p * x) up c
       some l = omega (arith, vanderbeck-positive x l)

@@ -8,6 +8,7 @@ pub mod Remainder
 pub mod DashGunluk
 pub mod Legal
 pub mod Promise
+pub mod Identities
 pub mod Ready
 pub mod Prepared
 pub mod Answers

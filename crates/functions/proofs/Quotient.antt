@@ -2,7 +2,7 @@
 use mathlib.Core.Path.{_≡_, ap, sym, _∙_}
 use mathlib.Core.Logic.{_⊎_, ⊎-elim}
 use Prim.Native.Nat.{ℕ, _+_, _-_, _*_, _/_, _%_, _≤_, _<_}
-use native.Mathlib.Nat.{div-add-mod', mod-lt, mul-le-mul-left, mul-le-mul-right, zero-div, zero-mod}
+use native.Mathlib.Nat.{div-add-mod', div-zero, div-eq-of-lt, mod-lt, mul-le-mul-left, mul-le-mul-right, zero-div, zero-mod, eq-zero-or-pos}
 use native.Mathlib.Omega.{arith}
 use borrow.Author.Tests.{le-leb, lt-leb}
 use lib.Dec.{leb}
@@ -75,6 +75,11 @@ module _ (p : ℕ) (pos : 0 < p) where
         go x y (one d m) =
             omega (arith, is x, is y, is (x + y), ap (λ (k : ℕ). F * k) d, carried (x % p) (y % p) ((x + y) % p) (mod-lt x pos) (mod-lt y pos) (sym m))
 
+-- nothing is rounded up to nothing, whatever the divisor
+pub up-zero : (d : ℕ) → (0 up d) ≡ 0
+unfolding _up_
+up-zero d = ⊎-elim (λ none. rw none (div-zero (0 + (0 - 1)))) (λ pos. div-eq-of-lt (omega arith)) (eq-zero-or-pos d)
+
 -- the quotient rounded up is the least number whose multiple reaches a
 module _ (d : ℕ) (pos : 0 < d) where
   pub up-reaches : (a : ℕ) → a ≤ (a up d) * d
@@ -101,9 +106,6 @@ module _ (d : ℕ) (pos : 0 < d) where
 
   pub up-monotone : (a b : ℕ) → a ≤ b → (a up d) ≤ (b up d)
   up-monotone a b l = up-least a (b up d) (omega (arith, up-reaches b))
-
-  pub up-zero : (0 up d) ≡ 0
-  up-zero = omega (arith, up-least 0 0 (omega arith))
 
   pub up-exact : (k : ℕ) → ((k * d) up d) ≡ k
   up-exact k = omega (arith, up-least (k * d) k (omega arith), up-greatest (k * d) k (omega arith))

@@ -43,7 +43,7 @@ module _ (p q r : ℕ) (less : r < p) where
   theta-of a b e = ap (λ (n : ℕ). (n * q) up (p - r)) e
 
   pub theta-small : (a : ℕ) → a ≤ r → theta p q r a ≡ 0
-  theta-small a l = theta-of a 0 (omega arith) ∙ ap (λ (n : ℕ). n up (p - r)) (omega arith) ∙ up-zero (p - r) gap-positive
+  theta-small a l = theta-of a 0 (omega arith) ∙ ap (λ (n : ℕ). n up (p - r)) (omega arith) ∙ up-zero (p - r)
 
   pub theta-monotone : (a b : ℕ) → a ≤ b → theta p q r a ≤ theta p q r b
   unfolding theta

@@ -7,16 +7,12 @@ use native.Mathlib.Nat.{le-trans, le-refl, eq-zero-or-pos, mul-le-mul-left}
 use native.Mathlib.Omega.{arith}
 use lib.ListN.{replicate}
 use Rattle.functions.specs.Words.{total, DualFeasible}
+pub use Rattle.functions.specs.Promise.{Superadditive}
 
 pub total-append : (xs ys : List ℕ) → total (xs ++ ys) ≡ total xs + total ys
 unfolding total
 total-append [] ys = omega arith
 total-append (x ∷ xs) ys = omega (arith, total-append xs ys)
-
--- f is superadditive up to c, and nothing comes of nothing
-pub record Superadditive (f : ℕ → ℕ) (c : ℕ) : Type 0 where
-  pub at-zero : f 0 ≡ 0
-  pub sums : (x y : ℕ) → x + y ≤ c → f x + f y ≤ f (x + y)
 
 module _ (f : ℕ → ℕ) (c : ℕ) (h : Superadditive f c) where
   pub monotone : (x y : ℕ) → x ≤ y → y ≤ c → f x ≤ f y

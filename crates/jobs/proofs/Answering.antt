@@ -10,10 +10,9 @@ use borrow.Author.Tests.{eq-eqb, ne-eqb, ltb-false}
 use lib.Dec.{ltb}
 use lib.ListN.{length, length-map, take, drop}
 use lib.Seq.{take-at}
-use Rattle.functions.proofs.Cases.{not-refused}
+use Rattle.functions.proofs.Cases.{not-refused, neither}
 use Rattle.tables.specs.Check.{mostEntries}
 use Rattle.tables.specs.Promise.{Overshoots}
-use Rattle.tables.proofs.Outcome.{neither}
 use Rattle.fields.specs.Bytes.{words}
 use Rattle.fields.specs.Parts.{Field, jobKind, jobCapacity, jobSizes, jobSteps}
 use Rattle.fields.specs.Grammar.{mostBytes, mostSizes}

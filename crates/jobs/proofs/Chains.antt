@@ -14,7 +14,7 @@ use Rattle.functions.proofs.Totals.{identity-promise, composed-promise}
 use Rattle.functions.proofs.Promise.{family-promise}
 use Rattle.tables.specs.Table.{entry, tableCapacity, tableScale}
 use Rattle.tables.specs.Check.{tableRefusal}
-use Rattle.tables.proofs.Outcome.{checked-step}
+use Rattle.tables.proofs.Promise.{table-promise}
 use Rattle.fields.specs.Parts.{Step, onFamily, onTable}
 use Rattle.jobs.specs.Chain.{capacityRefusal, stepImage, stepScale, stepRefusal, chainImage, chainScale, ChainAccepted}
 
@@ -24,7 +24,7 @@ unfolding stepRefusal capacityRefusal
 table-step c t e =
     let passed = then-zero (tableRefusal t (length t) (tableCapacity t)) (capacityRefusal c t) e in
     let same : tableCapacity t ≡ c = present (eqb (tableCapacity t) c) refl (passed .1) in
-    rw same at (checked-step t (length t) (tableCapacity t) (passed .0))
+    rw same at (table-promise t (length t) (tableCapacity t) .step (passed .0))
   where
     present : (test : Bool) → eqb (tableCapacity t) c ≡ test → _≡_ {A = ℕ} (cond test 0 18) 0 → tableCapacity t ≡ c
     present true is none = eqb-true (tableCapacity t) c is

@@ -14,7 +14,7 @@ use Rattle.functions.proofs.Legal.{passed, capacity-bounds, family-refusal-most
 use Rattle.tables.specs.Table.{tableCapacity, counterexample}
 use Rattle.tables.specs.Check.{tableRefusal}
 use Rattle.tables.specs.Promise.{Overshoots}
-use Rattle.tables.proofs.Outcome.{checked-overshoots}
+use Rattle.tables.proofs.Promise.{counterexample-promise}
 use Rattle.fields.specs.Parts.{Field, Step, onFamily, onTable, jobKind, jobCapacity, jobSizes, jobSteps}
 use Rattle.jobs.specs.Chain.{capacityRefusal, stepScale, stepRefusal, ChainAccepted}
 use Rattle.jobs.specs.Sizes.{isKind, leastOf, sizesWithin, listRefusal}
@@ -35,7 +35,7 @@ chain-accepted (s ∷ steps) c k e =
 step-overshoots : (c : ℕ) (s : Step) → stepRefusal c s ≡ 11 → Overshoots (stepEntries s) (stepList 11 s)
 unfolding stepRefusal capacityRefusal stepEntries stepList
 step-overshoots c (onFamily family p q) e = absurd (omega (arith, e, family-refusal-most c family p q))
-step-overshoots c (onTable t) e = ⊎-elim (λ none. other (eqb (tableCapacity t) c) (rw (eq-eqb _ 0 none) at e)) (λ some. checked-overshoots t (length t) (tableCapacity t) (rw (ne-eqb (tableRefusal t (length t) (tableCapacity t)) 0 (omega arith)) at e)) (eq-zero-or-pos (tableRefusal t (length t) (tableCapacity t)))
+step-overshoots c (onTable t) e = ⊎-elim (λ none. other (eqb (tableCapacity t) c) (rw (eq-eqb _ 0 none) at e)) (λ some. counterexample-promise t (length t) (tableCapacity t) (rw (ne-eqb (tableRefusal t (length t) (tableCapacity t)) 0 (omega arith)) at e)) (eq-zero-or-pos (tableRefusal t (length t) (tableCapacity t)))
   where
     other : (test : Bool) → _≡_ {A = ℕ} (cond test 0 18) 11 → Overshoots t (counterexample t)
     other true e = absurd (omega arith)

@@ -1,4 +1,4 @@
--- P3: the floor of an accepted chain is at most the bins of every packing that fits, and its cut holds.
+-- P3: the floor of an accepted chain is at most the bins of every packing that fits, and its cut holds. The rows on packings, and the floor of the empty list.
 use mathlib.Core.Path.{_≡_, refl, ap, sym, _∙_}
 use mathlib.Core.Bool.{Bool, true, false, cond, _||_, or-true, false≢true}
 use mathlib.Core.List.{List, [], _∷_, _++_, map, map-id}
@@ -10,16 +10,28 @@ use borrow.Author.Tests.{eqb-true, eq-eqb}
 use lib.Dec.{eqb}
 use lib.ListN.{length, replicate, length-map, getD}
 use Rattle.functions.specs.Words.{limit, total}
+use Rattle.functions.specs.Families.{_up_}
 use Rattle.functions.specs.Promise.{StepPromise}
 use Rattle.functions.proofs.Superadditive.{total-append}
 use Rattle.functions.proofs.Totals.{total-none, total-cons, total-plus, total-repeated, feasible-images}
 use Rattle.functions.proofs.Mapped.{map-append}
-use Rattle.functions.proofs.Quotient.{up-least}
+use Rattle.functions.proofs.Quotient.{up-zero, up-least}
 use Rattle.functions.proofs.Summed.{total-most}
 use Rattle.fields.specs.Parts.{Step}
 use Rattle.jobs.specs.Chain.{chainImage, chainScale, ChainAccepted, chainFloor}
 use Rattle.jobs.specs.Packing.{load, Fits, member, distinct, binsUsed, weighted, ChainPromise}
+use Rattle.jobs.specs.Rows.{PackingRows}
 use Rattle.jobs.proofs.Chains.{chain-promise}
+
+pub packing-rows : PackingRows
+unfolding load member distinct binsUsed weighted
+packing-rows =
+    record { load-of-two = refl; load-of-one = refl; load-of-none = refl; bins-used = refl; no-bins-used = refl; weighted-total = refl }
+
+-- "it is 0 for an empty list"
+pub empty-floor : (c : ℕ) (steps : List Step) → chainFloor c steps [] ≡ 0
+unfolding chainFloor
+empty-floor c steps = ap (λ (sum : ℕ). sum up chainScale c steps) total-none ∙ up-zero (chainScale c steps)
 
 -- the sizes that a packing puts into bin b
 select : ℕ → List ℕ → List ℕ → List ℕ

@@ -1,6 +1,6 @@
 -- The sweep: the best parameter so far, turn by turn, and the safety of the largest floor.
 use mathlib.Core.Path.{_≡_, refl, ap, sym, _∙_}
-use mathlib.Core.Bool.{Bool, true, false, cond, _&&_, false≢true}
+use mathlib.Core.Bool.{Bool, true, false, cond, not, _&&_, _||_, false≢true}
 use mathlib.Core.List.{List, [], _∷_, _++_, map, append-nil}
 use mathlib.Core.Logic.{_⊎_, inl, inr, ⊎-elim}
 use Prim.Native.Nat.{ℕ, zero, suc, _+_, _-_, _*_, _^_, _≤_, _<_, max, zero-le}
@@ -16,12 +16,11 @@ use Rattle.functions.specs.Image.{familyRefusal, familyAnswer}
 use Rattle.functions.specs.Promise.{FamilyPromise}
 use Rattle.functions.specs.declared.FamilyAnswer.{FamilyAnswer}
 use Rattle.functions.proofs.Answers.{number-is, scale-is}
-use Rattle.functions.proofs.Cases.{lt-or-ge, not-refused}
+use Rattle.functions.proofs.Cases.{lt-or-ge, not-refused, neither, cond-below}
 use Rattle.functions.proofs.Legal.{passed, capacity-bounds}
 use Rattle.functions.proofs.Mapped.{map-append}
 use Rattle.functions.proofs.Promise.{family-promise}
 use Rattle.functions.proofs.Summed.{sum-small}
-use Rattle.tables.proofs.Outcome.{neither}
 use Rattle.fields.specs.Parts.{onFamily}
 use Rattle.fields.specs.Grammar.{mostSizes}
 use Rattle.jobs.specs.Chain.{stepImage, stepScale, stepRefusal, chainImage, chainScale, ChainAccepted, chainFloor}
@@ -200,6 +199,15 @@ module _ (c family : ℕ) (sizes : List ℕ) (low high : ℕ) where
         ascending = ltb-false high low (nineteen .0);
         narrow = ltb-false widest (high - low) (nineteen .1);
       }
+
+  pub sweep-below : sweepRefusal c family sizes low high < 20
+  unfolding sweepRefusal
+  sweep-below =
+      cond-below (not (capacityFits c)) 20 1 _ (omega arith)
+      (cond-below (not (leb 1 family && leb family 5)) 20 2 _ (omega arith)
+      (cond-below (ltb mostSizes (length sizes)) 20 6 _ (omega arith)
+      (cond-below (not (sizesWithin 1 c sizes)) 20 17 _ (omega arith)
+      (cond-below (ltb high low || ltb widest (high - low)) 20 19 0 (omega arith) (omega arith)))))
 
   pub sweep-refused : (sweepRefusal c family sizes low high ≡ 0 → ⊥) → sweepAnswer c family sizes low high ≡ refusedSweep (sweepRefusal c family sizes low high)
   unfolding sweepAnswer

@@ -8,28 +8,13 @@ use native.Mathlib.Nat.{le-refl, eq-zero-or-pos}
 use native.Mathlib.Omega.{arith}
 use Rattle.functions.proofs.Cases.{lt-or-ge}
 use Rattle.sweeps.specs.Sweep.{sweepRefusal, sweepFloor, passes, passing, refusedSweep, bestOf, sweepAnswer}
+use Rattle.sweeps.specs.Promise.{Eligible, Largest, NoneEligible}
 use Rattle.sweeps.specs.declared.SweepAnswer.{SweepAnswer}
-use Rattle.sweeps.proofs.Sweeps.{best-kept, best-replaced, sweep-fine, sweep-refused, sweep-accepted}
-
--- q stands from `low` on and before `end`, and passes 3 and 4
-pub record Eligible (c family low end q : ℕ) : Type 0 where
-  pub least : low ≤ q
-  pub most : q < end
-  pub passes-both : passes c family q ≡ true
-
--- p gives the largest floor, and each p before it a smaller one
-pub record Largest (c family : ℕ) (sizes : List ℕ) (low end floor p : ℕ) : Type 0 where
-  pub eligible : Eligible c family low end p
-  pub floor-is : sweepFloor c family sizes p ≡ floor
-  pub largest-is : (q : ℕ) → Eligible c family low end q → sweepFloor c family sizes q ≤ floor
-  pub least-is : (q : ℕ) → Eligible c family low end q → q < p → sweepFloor c family sizes q < floor
-
-abbrev None : ℕ → ℕ → ℕ → ℕ → Type 0
-None c family low end = (q : ℕ) → Eligible c family low end q → ⊥
+use Rattle.sweeps.proofs.Sweeps.{best-kept, best-replaced, sweep-fine, sweep-below, sweep-refused, sweep-accepted}
 
 -- what an answer says of the numbers before `end`
 data Standing (c family : ℕ) (sizes : List ℕ) (low end : ℕ) : SweepAnswer → Type 0 where
-  none : None c family low end → Standing c family sizes low end (refusedSweep 20)
+  none : NoneEligible c family low end → Standing c family sizes low end (refusedSweep 20)
   some : {floor p : ℕ} → Largest c family sizes low end floor p → Standing c family sizes low end (record { number = 0; floor = floor; p = p })
 
 module _ (c family : ℕ) (sizes : List ℕ) (low : ℕ) where
@@ -110,11 +95,14 @@ module _ (c family : ℕ) (sizes : List ℕ) (low high : ℕ) where
       let end : low + suc (high - low) ≡ suc high = omega (arith, sweep-fine c family sizes low high e) in
       rw (sweep-accepted c family sizes low high e, ← end) (standing c family sizes low (suc (high - low)))
 
+  refused-as : (sweepRefusal c family sizes low high ≡ 0 → ⊥) → sweepAnswer c family sizes low high .number ≡ sweepRefusal c family sizes low high
+  refused-as other = ap (λ (a : SweepAnswer). a .number) (sweep-refused c family sizes low high other)
+
   largest-of : (a : SweepAnswer) → Standing c family sizes low (suc high) a → a .number ≡ 0 → Largest c family sizes low (suc high) (a .floor) (a .p)
   largest-of a (none h) e = absurd (omega arith)
   largest-of a (some b) e = b
 
-  none-of : (a : SweepAnswer) → Standing c family sizes low (suc high) a → a .number ≡ 20 → None c family low (suc high)
+  none-of : (a : SweepAnswer) → Standing c family sizes low (suc high) a → a .number ≡ 20 → NoneEligible c family low (suc high)
   none-of a (none h) e = h
   none-of a (some b) e = absurd (omega arith)
 
@@ -123,9 +111,13 @@ module _ (c family : ℕ) (sizes : List ℕ) (low high : ℕ) where
   sweep-largest e =
       ⊎-elim
       (λ passed. largest-of _ (answered passed) e)
-      (λ more. absurd (omega (arith, ap (λ (a : SweepAnswer). a .number) (sweep-refused c family sizes low high (omega arith)))))
+      (λ more. absurd (omega (arith, refused-as (omega arith))))
       (eq-zero-or-pos (sweepRefusal c family sizes low high))
 
   -- 20: no p of the range passes
-  pub sweep-none : sweepRefusal c family sizes low high ≡ 0 → sweepAnswer c family sizes low high .number ≡ 20 → None c family low (suc high)
-  sweep-none passed e = none-of _ (answered passed) e
+  pub sweep-none : sweepAnswer c family sizes low high .number ≡ 20 → NoneEligible c family low (suc high)
+  sweep-none e =
+      ⊎-elim
+      (λ passed. none-of _ (answered passed) e)
+      (λ more. absurd (omega (arith, refused-as (omega arith), sweep-below c family sizes low high)))
+      (eq-zero-or-pos (sweepRefusal c family sizes low high))

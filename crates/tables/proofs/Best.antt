@@ -11,7 +11,8 @@ use Rattle.functions.proofs.Cases.{lt-or-ge}
 use Rattle.functions.proofs.Superadditive.{total-append}
 use Rattle.functions.proofs.Mapped.{map-append}
 use Rattle.tables.specs.Table.{entry, greatestSum, bests, best}
-use Rattle.tables.proofs.Entries.{Form}
+use Rattle.tables.specs.Check.{TableForm}
+use Rattle.tables.specs.Promise.{Reached}
 
 -- a pair's sum is at most the greatest
 sum-most : (xs bs : List ℕ) (i : ℕ) → i < length xs → i < length bs → getD xs i 0 + getD bs i 0 ≤ greatestSum xs bs
@@ -118,20 +119,14 @@ module _ (t : List ℕ) where
   pub entry-most : (y : ℕ) → 1 ≤ y → y < length t → entry t y ≤ best t y
   entry-most y h m = omega (arith, best-adds y y h (le-refl y) m)
 
-  -- a list that fits c and reaches best c
-  pub record Reached (c : ℕ) : Type 0 where
-    pub sizes : List ℕ
-    pub fits : total sizes ≤ c
-    pub reaches : total (map (entry t) sizes) ≡ best t c
-
-  reached-up-to : (k c : ℕ) → c ≤ k → Reached c
+  reached-up-to : (k c : ℕ) → c ≤ k → Reached t c
   unfolding total
   reached-up-to zero c l =
       let e : c ≡ 0 = omega arith in
       record { sizes = []; fits = omega arith; reaches = sym (ap (best t) e ∙ best-zero) }
   reached-up-to (suc k) c l = go (best-from c) (reached-up-to k)
     where
-      go : (best t c ≡ 0) ⊎ First c → ((d : ℕ) → d ≤ k → Reached d) → Reached c
+      go : (best t c ≡ 0) ⊎ First c → ((d : ℕ) → d ≤ k → Reached t d) → Reached t c
       go (inl e) rest = record { sizes = []; fits = omega arith; reaches = sym e }
       go (inr f) rest =
           let r = rest (c - f .size) (omega (arith, f)) in
@@ -141,10 +136,11 @@ module _ (t : List ℕ) where
             reaches = omega (arith, f .reaches, r .reaches);
           }
 
-  pub best-reached : (c : ℕ) → Reached c
+  -- a list that fits c reaches best c
+  pub best-reached : (c : ℕ) → Reached t c
   best-reached c = reached-up-to c c (le-refl c)
 
-  module _ (form : Form t) where
+  module _ (form : TableForm t) where
     -- one more size, where the others are bounded at every capacity
     bounds-more : (x c rest images : ℕ) → ((d : ℕ) → rest ≤ d → d < length t → images ≤ best t d) → x + rest ≤ c → c < length t → entry t x + images ≤ best t c
     bounds-more x c rest images bound l m = ⊎-elim nothing some (eq-zero-or-pos x)

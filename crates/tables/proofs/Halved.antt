@@ -8,12 +8,11 @@ use native.Mathlib.Omega.{arith}
 use lib.ListN.{length}
 use Rattle.tables.specs.Table.{entry, best}
 use Rattle.tables.specs.Check.{TableForm}
-use Rattle.tables.proofs.Entries.{Form, form}
 use Rattle.tables.proofs.Best.{entry-most, best-sums, best-halved}
 
 -- c is a size of the table; `most` is at most best c, and at least the entry of c and each pair of bests below y
 pub record Halved (t : List ℕ) (c most y : ℕ) : Type 0 where
-  pub form : Form t
+  pub form : TableForm t
   pub listed : c < length t
   pub positive : 1 ≤ y
   pub up-to : y ≤ c
@@ -24,7 +23,7 @@ pub record Halved (t : List ℕ) (c most y : ℕ) : Type 0 where
 pub halved-start : (t : List ℕ) (c : ℕ) → TableForm t → 1 ≤ c → c < length t → Halved t c (entry t c) 1
 halved-start t c h some l =
     record {
-      form = form t h;
+      form = h;
       listed = l;
       positive = le-refl 1;
       up-to = some;

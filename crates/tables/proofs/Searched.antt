@@ -8,7 +8,7 @@ use Rattle.functions.specs.Words.{limit}
 use Rattle.tables.specs.Table.{entry, best, leastFrom, leastSize}
 use Rattle.tables.specs.Check.{mostEntries}
 use Rattle.tables.specs.Working.{BestsBelow}
-use Rattle.tables.proofs.Entries.{form, entry-is}
+use Rattle.tables.proofs.Entries.{entry-is}
 use Rattle.tables.proofs.Best.{best-most}
 use Rattle.tables.proofs.Walk.{least-found, least-passed, least-last}
 
@@ -36,7 +36,7 @@ module _ (t working : List ℕ) (c y : ℕ) (s : Searched t working c y) where
 
   pub searched-small : tried ≤ limit * mostEntries
   searched-small =
-      let f = form t (s .bests .form) in
+      let f = s .bests .form in
       omega (arith, tried-is, f .small y, best-most t f (c - y), s .positive, s .up-to, s .bests .in-table, s .bests .form .most)
 
   module _ (l : y < c) where

@@ -25,11 +25,13 @@ formRefusal t =
     (cond (eqb (tableScale t) 0) 9
     (cond (not (withinLimit t)) 10 0))
 
--- refusals 6 and 8 to 10 do not apply
+-- document 01's form: 2 to 2,048 entries, the first 0, the last at least 1, none over the limit. Refusals 6 and 8 to 10 test it
 pub record TableForm (t : List ℕ) : Type 0 where
   pub least : 2 ≤ length t
   pub most : length t ≤ mostEntries
-  pub entries : formRefusal t ≡ 0
+  pub first : entry t 0 ≡ 0
+  pub last : 1 ≤ tableScale t
+  pub small : (x : ℕ) → entry t x ≤ limit
 
 -- the number that refuses a table for its entries, or 0
 unfoldable pub entriesRefusal : List ℕ → ℕ

@@ -8,7 +8,7 @@ ghost use mathlib.Core.List.{map};
 ghost use lib.ListN.{length, take};
 ghost use Rattle.tables.specs.Table.{entry};
 ghost use Rattle.tables.specs.Check.{tableAnswer, workingAfter, listAfter};
-ghost use Rattle.tables.specs.Promise.{Overshoots};
+ghost use Rattle.tables.specs.Promise.{Overshoots, AcceptedExactly};
 
 // The most entries of a table.
 pub const MOST_ENTRIES: usize = 2_048;
@@ -34,6 +34,8 @@ pub extern "C" fn windowfloor_table_check(
         ⌜ now (list .exit) ≡ listAfter (now (table .entry)) (now (working .entry)) (now (list .entry)) ⌝ }
     ensures overshoots { λ r.
         ⌜ (r .number ≡ 11 → Overshoots (now (table .entry)) (take (r .length) (now (list .exit)))) ⌝ }
+    ensures exactly { λ r. ⌜ AcceptedExactly (now (table .entry)) (length (now (working .entry)))
+        (length (now (list .entry))) (r .number) ⌝ }
 {
     let by_lengths = form::refuse_lengths(table.len(), working.len(), list.len());
     if by_lengths != 0 {

@@ -6,7 +6,8 @@ use borrow.Author.Needs.{needs}
 use lib.ListN.{length}
 use Rattle.tables.specs.Check.{lengthRefusal}
 use Rattle.tables.specs.Working.{BestsBelow}
-use Rattle.tables.proofs.Outcome.{lengths, Passed, passed, refused-by-length, refused-by-form, working-bests, ends-accepted, ends-refuted}
+use Rattle.tables.proofs.Entries.{lengths}
+use Rattle.tables.proofs.Outcome.{Passed, passed, refused-by-length, refused-by-form, working-bests, ends-accepted, ends-refuted}
 use Rattle.tables.proofs.windowfloor_table_check.Statement.{statement}
 use Rattle.tables.proofs.windowfloor_table_check.Tie as tie
 

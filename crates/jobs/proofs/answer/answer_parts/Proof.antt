@@ -1,6 +1,7 @@
 -- `answer_parts` meets its contract: the refusals in their order, and then the answer.
-use mathlib.Core.Path.{refl, sym}
+use mathlib.Core.Path.{_≡_, refl}
 use native.Mathlib.Omega.{arith}
+use lib.ListN.{length, take}
 use lib.Seq.{length-take-le}
 use Rattle.fields.proofs.Filling.{sizes-count}
 use Rattle.jobs.proofs.Answering.{parts-refused, step-refused, fields-accepted, scale-is, parts-accepted}
@@ -49,21 +50,22 @@ returns-2 c =
 slice-relend-prefix-finish : tie.Need-slice-relend-prefix-finish
 slice-relend-prefix-finish c = search needs
 
+-- a place for each size
+places : (s : tie.Start) → length (take (s .args .parts .sizes .n) (s .args .images .now)) ≡ s .args .parts .sizes .n
+places s = length-take-le (s .args .parts .sizes .n) (s .args .images .now) (omega (arith, s .pre .0 .sizes-most, s .pre .1))
+
 slice-aggregate-finish : tie.Need-slice-aggregate-finish
-slice-aggregate-finish c =
-    let pre = start (listed (c .before .before .before .before .before .before .before) .before) .pre in
-    sym (length-take-le _ _ (omega (arith, pre .0 .sizes-most, pre .1)))
+slice-aggregate-finish c = omega (arith, places (start (listed (c .before .before .before .before .before .before .before) .before)))
 
 finish-requires : tie.Need-finish-requires
 finish-requires c κs =
     let j = c .before .before .before .before .before .before .before in
     let l = listed j in
-    let s = start (l .before) in
-    let pre = s .pre in (
-      pre .0,
+    let s = start (l .before) in (
+      s .pre .0,
       fields-accepted _ _ _ (s .pre .0) (s .args .images .now) (s .args .list .now) _ (l .before .refuse-list .ensures) (l .if1 .left) _ _ (j .judge-steps .ensures) (c .before .if2 .left),
       scale-is _ _ _ (s .pre .0) (s .args .images .now) (s .args .list .now) _ (l .before .refuse-list .ensures) (l .if1 .left) _ _ (j .judge-steps .ensures) (c .before .if2 .left),
-      length-take-le _ _ (omega (arith, pre .0 .sizes-most, pre .1)),
+      places s,
     )
 
 same-length-3 : tie.Need-same-length-3

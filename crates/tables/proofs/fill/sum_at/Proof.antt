@@ -1,7 +1,6 @@
 -- `sum_at` meets its contract: the two places that it reads hold bests.
 use Prim.Native.Nat.{_-_}
 use native.Mathlib.Omega.{arith}
-use Rattle.tables.proofs.Entries.{form}
 use Rattle.tables.proofs.Best.{best-most}
 use Rattle.tables.proofs.fill.sum_at.Statement.{statement}
 use Rattle.tables.proofs.fill.sum_at.Tie as tie
@@ -28,8 +27,7 @@ add-result c =
     let bests = start .pre .0 in
     let y = start .args .y in
     let rest = start .args .c - y in
-    let f = form t (bests .form) in
-    omega (arith, bests .holds y (omega arith), bests .holds rest (omega arith), best-most t f y, best-most t f rest)
+    omega (arith, bests .holds y (omega arith), bests .holds rest (omega arith), best-most t (bests .form) y, best-most t (bests .form) rest)
 
 returns : tie.Need-returns
 returns c =

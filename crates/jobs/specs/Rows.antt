@@ -1,0 +1,20 @@
+-- The definitions of packings and counts at small inputs. `proofs/Packings.antt` proves these rows, by computation.
+use mathlib.Core.Path.{_≡_}
+use mathlib.Core.List.{List, [], _∷_}
+use Prim.Native.Nat.{ℕ}
+use Rattle.jobs.specs.Packing.{load, binsUsed, weighted}
+
+abbrev sizes : List ℕ
+sizes = 7 ∷ 5 ∷ 3 ∷ []
+
+-- the sizes 7 and 3 in bin 4, and 5 in bin 1
+abbrev bins : List ℕ
+bins = 4 ∷ 1 ∷ 4 ∷ []
+
+pub record PackingRows : Type 0 where
+  pub load-of-two : load 4 sizes bins ≡ 10
+  pub load-of-one : load 1 sizes bins ≡ 5
+  pub load-of-none : load 0 sizes bins ≡ 0
+  pub bins-used : binsUsed bins ≡ 2
+  pub no-bins-used : binsUsed [] ≡ 0
+  pub weighted-total : weighted (2 ∷ 0 ∷ 1 ∷ []) sizes ≡ 17
