@@ -45,7 +45,7 @@ returns-2 c =
     let j = c .before .before .before .before .before .before .before in
     let l = listed j in
     let s = start (l .before) in
-    (step-refused _ _ _ (s .pre .0) (s .args .images .now) (s .args .list .now) _ (l .before .refuse-list .ensures) (l .if1 .left) _ _ (j .judge-steps .ensures) (c .before .if2 .taken) _ (c .refused2 .ensures), same-length c)
+    (step-refused _ _ _ (s .pre .0) (s .args .images .now) (s .args .list .now) _ (l .before .refuse-list .ensures) (l .if1 .left) _ _ (j .judge-steps .ensures) (λ none. omega (arith, none, c .before .if2 .taken)) _ (c .refused2 .ensures), same-length c)
 
 slice-relend-prefix-finish : tie.Need-slice-relend-prefix-finish
 slice-relend-prefix-finish c = search needs

@@ -39,7 +39,7 @@ round-up-requires c κs =
     let applied = c .before .before .before .before .before .before in
     let d = applied .before .before .before .before in
     let pre = start d .pre in
-    roundable _ _ _ (pre .0) (pre .1) _ (decoded d) _ (applied .apply-steps .ensures) _ (pre .2) _ (c .sum-of .ensures .1)
+    omega (arith, roundable _ _ _ (pre .0) (pre .1) _ (decoded d) _ (applied .apply-steps .ensures) _ (pre .2) _ (c .sum-of .ensures .1))
 
 accepted-requires : tie.Need-accepted-requires
 accepted-requires c κs = search needs

@@ -1,4 +1,6 @@
--- `refuse_buffers` meets its contract: its tests are the definition's.
+-- `refuse_buffers` meets its contract: its tests are the definition's. One buffer that is too short is enough for 7.
+use mathlib.Core.Bool.{or-true}
+use native.Mathlib.Omega.{arith}
 use borrow.Author.Tests.{lt-ltb, le-ltb}
 use Prim.Native.Nat.{_-_}
 use Rattle.tables.specs.Check.{mostEntries}
@@ -9,19 +11,19 @@ use Rattle.jobs.proofs.answer.refuse_buffers.Tie as tie
 
 returns : tie.Need-returns
 unfolding bufferRefusal
-returns c = rw (lt-ltb mostBytes _ (c .if1 .taken))
+returns c = rw (lt-ltb mostBytes (c .before .args .bytes) (omega (arith, c .if1 .taken)))
 
 returns-2 : tie.Need-returns-2
 unfolding bufferRefusal
-returns-2 c = rw (le-ltb mostBytes _ (c .before .if1 .left), lt-ltb _ mostSizes (c .if2 .taken))
+returns-2 c = rw (le-ltb mostBytes _ (c .before .if1 .left), lt-ltb (c .before .before .args .images) mostSizes (omega (arith, c .if2 .taken)))
 
 returns-3 : tie.Need-returns-3
 unfolding bufferRefusal
-returns-3 c = rw (le-ltb mostBytes _ (c .before .before .if1 .left), le-ltb _ mostSizes (c .before .if2 .left), lt-ltb _ mostEntries (c .if3 .taken))
+returns-3 c = rw (le-ltb mostBytes _ (c .before .before .if1 .left), lt-ltb (c .before .before .before .args .working) mostEntries (omega (arith, c .if3 .taken)), or-true)
 
 returns-4 : tie.Need-returns-4
 unfolding bufferRefusal
-returns-4 c = rw (le-ltb mostBytes _ (c .before .before .before .if1 .left), le-ltb _ mostSizes (c .before .before .if2 .left), le-ltb _ mostEntries (c .before .if3 .left), lt-ltb _ (mostEntries - 1) (c .if4 .taken))
+returns-4 c = rw (le-ltb mostBytes _ (c .before .before .before .if1 .left), lt-ltb (c .before .before .before .before .args .list) (mostEntries - 1) (omega (arith, c .if4 .taken)), or-true)
 
 returns-5 : tie.Need-returns-5
 unfolding bufferRefusal

@@ -66,7 +66,7 @@ returns-2 : tie.Need-returns-2
 returns-2 c =
     let d = c .before .before .before .before .before .before .before in
     let e = d .windowfloor-table-check .ensures in
-    rw (c .refused-step2 .ensures, ← (entries d)) (table-of-another _ _ _ _ (room d) (list-room d) _ (e .0) _ (e .1 .1 .0) (c .before .before .if1 .left) (λ same. c .before .if2 .taken (sym (capacity-is _) ∙ same)))
+    rw (c .refused-step2 .ensures, ← (entries d)) (table-of-another _ _ _ _ (room d) (list-room d) _ (e .0) _ (e .1 .1 .0) (c .before .before .if1 .left) (λ same. omega (arith, same, capacity-is (d .before .before .before .before .before .before .decode-words .last .1 .0), c .before .if2 .taken)))
 
 mul-t12 : tie.Need-mul-t12
 mul-t12 c = search needs

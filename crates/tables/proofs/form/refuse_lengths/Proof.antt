@@ -1,4 +1,5 @@
--- `refuse_lengths` meets its contract: its tests are the definition's, in the same order.
+-- `refuse_lengths` meets its contract: its tests are the definition's, in the same order. One of the two tests of 6, or of 7, is enough.
+use mathlib.Core.Bool.{or-true}
 use native.Mathlib.Omega.{arith}
 use borrow.Author.Tests.{lt-ltb, le-ltb}
 use Rattle.tables.specs.Check.{mostEntries, lengthRefusal}
@@ -11,7 +12,7 @@ returns c = rw (lt-ltb (c .before .args .entries) 2 (omega (arith, c .if1 .taken
 
 returns-2 : tie.Need-returns-2
 unfolding lengthRefusal
-returns-2 c = rw (le-ltb _ 2 (c .before .if1 .left), lt-ltb mostEntries _ (c .if2 .taken))
+returns-2 c = rw (lt-ltb mostEntries (c .before .before .args .entries) (omega (arith, c .if2 .taken)), or-true)
 
 returns-3 : tie.Need-returns-3
 unfolding lengthRefusal
@@ -22,7 +23,7 @@ sub-if4 c = omega arith
 
 returns-4 : tie.Need-returns-4
 unfolding lengthRefusal
-returns-4 c = rw (le-ltb _ 2 (c .before .before .before .if1 .left), le-ltb mostEntries _ (c .before .before .if2 .left), le-ltb _ _ (c .before .if3 .left), lt-ltb _ _ (c .if4 .taken))
+returns-4 c = rw (le-ltb _ 2 (c .before .before .before .if1 .left), le-ltb mostEntries _ (c .before .before .if2 .left), lt-ltb _ _ (c .if4 .taken), or-true)
 
 returns-5 : tie.Need-returns-5
 unfolding lengthRefusal
