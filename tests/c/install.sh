@@ -85,9 +85,9 @@ check_uninstall() { # FOLDER, arguments of make
 
 rm -rf "$folder"
 mkdir -p "$folder"
-make --silent install DESTDIR="$folder/root"
-check_installed "$folder/root" /usr/local
-check_uninstall "$folder/root/usr/local" DESTDIR="$folder/root"
+make --silent install DESTDIR="$folder/staged"
+check_installed "$folder/staged" /usr/local
+check_uninstall "$folder/staged/usr/local" DESTDIR="$folder/staged"
 
 make --silent install PREFIX="$folder/own"
 make --silent install PREFIX="$folder/own" # over the first
@@ -97,5 +97,5 @@ check_uninstall "$folder/own" PREFIX="$folder/own"
 if make --silent install PREFIX=target/install/relative 2>/dev/null; then
     fail 'a relative PREFIX is not refused'
 fi
-expect 'folders' 'own planner root' "$(echo $(ls "$folder"))"
+expect 'folders' 'own planner staged' "$(echo $(ls "$folder"))"
 echo 'install: installed, used and uninstalled, with DESTDIR and with PREFIX'

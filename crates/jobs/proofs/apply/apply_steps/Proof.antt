@@ -36,7 +36,7 @@ apply-step-requires : tie.Need-apply-step-requires Inv-loop μ-loop
 apply-step-requires c κs =
     let k = c .before .before in
     let loop = k .before .loop in
-    (k .before .before .before .before .before .pre .0 .each (loop .i) (k .loop-test .taken), appliable _ _ _ _ _ _ (loop .inv .1) _ (here k))
+    (k .before .before .before .before .before .pre .0 .each _ (omega (arith, k .loop-test .taken)), appliable _ _ _ _ _ _ (loop .inv .1) _ (here k))
 
 add-i : tie.Need-add-i Inv-loop μ-loop
 add-i c = omega (arith, c .before .before .before .before .before .loop-test .taken, c .before .before .before .before .before .before .before .before .before .before .pre .0 .most)
