@@ -58,9 +58,10 @@ target/room:
 # Each behind what it needs, and behind the one that goes before it.
 target/proved-tables.log: target/proved-functions.log
 target/proved-fields.log: target/proved-tables.log
-target/proved-jobs.log: target/proved-fields.log
+target/proved-chains.log: target/proved-fields.log
+target/proved-jobs.log: target/proved-chains.log
 target/staticlib/libtables.a: target/proved-functions.log | target/staticlib/libfunctions.a
-target/staticlib/libjobs.a: target/proved-fields.log | target/staticlib/libtables.a
+target/staticlib/libjobs.a: target/proved-chains.log | target/staticlib/libtables.a
 target/staticlib/libsweeps.a: target/proved-jobs.log | target/staticlib/libjobs.a
 
 # touch: rt leaves the program as it is where nothing that it is made of has changed.

@@ -48,6 +48,7 @@ static struct {
     uint64_t image_answers[IMAGES];
     uint64_t working[WINDOWFLOOR_JOB_WORKING];
     uint32_t images[WINDOWFLOOR_JOB_IMAGES], list[WINDOWFLOOR_JOB_LIST];
+    uint32_t scales[WINDOWFLOOR_JOB_SCALES];
 } out;
 
 /* One call of each operation */
@@ -78,9 +79,11 @@ static void run_one_job(const struct contender *who)
     struct windowfloor_job_answer answer =
         who->parts == NULL
             ? windowfloor_job(job, job_bytes, out.images, WINDOWFLOOR_JOB_IMAGES, out.working,
-                              WINDOWFLOOR_JOB_WORKING, out.list, WINDOWFLOOR_JOB_LIST)
+                              WINDOWFLOOR_JOB_WORKING, out.list, WINDOWFLOOR_JOB_LIST, out.scales,
+                              WINDOWFLOOR_JOB_SCALES)
             : run_job(who->parts, job, job_bytes, out.images, WINDOWFLOOR_JOB_IMAGES, out.working,
-                      WINDOWFLOOR_JOB_WORKING, out.list, WINDOWFLOOR_JOB_LIST);
+                      WINDOWFLOOR_JOB_WORKING, out.list, WINDOWFLOOR_JOB_LIST, out.scales,
+                      WINDOWFLOOR_JOB_SCALES);
     memcpy(out.answer, &answer, sizeof answer);
 }
 
@@ -147,23 +150,44 @@ static void put_header(unsigned tag, size_t length)
     put(length, 2);
 }
 
-static void put_list(uint32_t of_capacity, size_t n)
+static void put_kind(uint8_t kind)
 {
     job_bytes = 0;
     put_header(WINDOWFLOOR_TAG_KIND, 1);
-    put(WINDOWFLOOR_KIND_FLOOR, 1);
-    put_header(WINDOWFLOOR_TAG_CAPACITY, 4);
-    put(of_capacity, 4);
-    put_header(WINDOWFLOOR_TAG_SIZES, 4 * n);
+    put(kind, 1);
+}
+
+static void put_sizes(uint32_t of_capacity, size_t n)
+{
     while (n-- > 0)
         put(1 + below(of_capacity), 4);
 }
 
-static void prepare_family_job(int steps)
+static void put_list(uint32_t of_capacity, size_t n)
+{
+    put_kind(WINDOWFLOOR_KIND_FLOOR);
+    put_header(WINDOWFLOOR_TAG_CAPACITY, 4);
+    put(of_capacity, 4);
+    put_header(WINDOWFLOOR_TAG_SIZES, 4 * n);
+    put_sizes(of_capacity, n);
+}
+
+/* Rows of n coefficients in all; each right side is that of the row before, less a distance. */
+static void put_rows(size_t rows, size_t n, uint32_t right_side, uint32_t distance)
+{
+    put_kind(WINDOWFLOOR_KIND_ROWS);
+    for (size_t i = 0; i < rows; i++) {
+        put_header(WINDOWFLOOR_TAG_ROW, 4 + 4 * (n / rows));
+        put(right_side, 4);
+        put_sizes(right_side, n / rows);
+        right_side -= distance;
+    }
+}
+
+static void put_families(int steps)
 {
     static const uint32_t chain[][3] = {{5, 700, 0}, {2, 3, 0},  {3, 1000, 0}, {4, 300, 0},
                                         {1, 100, 0}, {6, 7, 10}, {7, 13, 10},  {2, 50, 0}};
-    put_list(1000000, WINDOWFLOOR_MOST_SIZES);
     for (int i = 0; i < steps; i++) {
         put_header(WINDOWFLOOR_TAG_FAMILY, 9);
         put(chain[i][0], 1);
@@ -172,17 +196,48 @@ static void prepare_family_job(int steps)
     }
 }
 
+static void put_table(void)
+{
+    put_header(WINDOWFLOOR_TAG_TABLE, 4 * entries);
+    for (size_t x = 0; x < entries; x++)
+        put(table[x], 4);
+}
+
+static void put_tables(int tables)
+{
+    entries = WINDOWFLOOR_MOST_ENTRIES;
+    while (tables-- > 0) {
+        draw_table();
+        put_table();
+    }
+}
+
+static void prepare_family_job(int steps)
+{
+    put_list(1000000, WINDOWFLOOR_MOST_SIZES);
+    put_families(steps);
+}
+
 /* 2,039 sizes: with them the job has 65,535 bytes. */
 static void prepare_table_job(int tables)
 {
     put_list(2047, 2039);
-    entries = WINDOWFLOOR_MOST_ENTRIES;
-    while (tables-- > 0) {
-        draw_table();
-        put_header(WINDOWFLOOR_TAG_TABLE, 4 * entries);
-        for (size_t x = 0; x < entries; x++)
-            put(table[x], 4);
-    }
+    put_tables(tables);
+}
+
+/* Right sides with the same remainder by 700: the first step, of family 5, leaves them enough for the
+ * others. */
+static void prepare_family_rows(int of_rows)
+{
+    put_rows((size_t)of_rows, WINDOWFLOOR_MOST_SIZES, 1000000, 700);
+    put_families(8);
+}
+
+/* 1,920 coefficients: 64 rows of 30 leave room for seven tables. */
+static void prepare_table_rows(int of_rows)
+{
+    put_rows((size_t)of_rows, 1920, 2047, 0);
+    put_tables(7);
 }
 
 /* At this capacity each family has 4,096 legal p from 1 (family 4: from 2) on. */
@@ -204,13 +259,14 @@ struct row {
     const char *unit;
     double per_second; /* units */
     double inputs;     /* of one call */
+    double at_most;    /* this many times the row before; 0: no such goal */
 };
 
-#define IMAGE_ROW(with, name) {"image, " name, prepare_images, with, run_images, "ns", 1e9, IMAGES}
-#define TABLE_ROW(with, c) {"table check, C = " c, prepare_table, with, run_table_check, "µs", 1e6, 1}
-#define JOB_ROW(with, what) {"job, 2,048 sizes, " what, prepare_family_job, with, run_one_job, "µs", 1e6, 1}
+#define IMAGE_ROW(with, name) {"image, " name, prepare_images, with, run_images, "ns", 1e9, IMAGES, 0}
+#define TABLE_ROW(with, c) {"table check, C = " c, prepare_table, with, run_table_check, "µs", 1e6, 1, 0}
+#define JOB_ROW(prepare, with, what, at_most) {"job, " what, prepare, with, run_one_job, "µs", 1e6, 1, at_most}
 #define SWEEP_ROW(with, name) \
-    {"sweep, 4,096 p × 2,048 sizes, " name, prepare_sweep, with, run_one_sweep, "ms", 1e3, 1}
+    {"sweep, 4,096 p × 2,048 sizes, " name, prepare_sweep, with, run_one_sweep, "ms", 1e3, 1, 0}
 
 static const struct row rows[] = {
     IMAGE_ROW(1, "family 1 (threshold)"),
@@ -223,10 +279,14 @@ static const struct row rows[] = {
     TABLE_ROW(255, "255"),
     TABLE_ROW(1023, "1,023"),
     TABLE_ROW(2047, "2,047"),
-    JOB_ROW(0, "no step"),
-    JOB_ROW(1, "1 family step"),
-    JOB_ROW(8, "8 family steps"),
-    {"job, 2,039 sizes, 7 tables of 2,048 entries", prepare_table_job, 7, run_one_job, "µs", 1e6, 1},
+    JOB_ROW(prepare_family_job, 0, "2,048 sizes, no step", 0),
+    JOB_ROW(prepare_family_job, 1, "2,048 sizes, 1 family step", 0),
+    JOB_ROW(prepare_family_job, 8, "2,048 sizes, 8 family steps", 0),
+    JOB_ROW(prepare_table_job, 7, "2,039 sizes, 7 tables of 2,048 entries", 0),
+    JOB_ROW(prepare_family_rows, 1, "1 row of 2,048 coefficients, 8 family steps", 0),
+    JOB_ROW(prepare_family_rows, 64, "64 rows of 32 coefficients, 8 family steps", 1.5),
+    JOB_ROW(prepare_table_rows, 1, "1 row of 1,920 coefficients, 7 tables of 2,048 entries", 0),
+    JOB_ROW(prepare_table_rows, 64, "64 rows of 30 coefficients, 7 tables of 2,048 entries", 1.3),
     SWEEP_ROW(1, "family 1"),
     SWEEP_ROW(2, "family 2"),
     SWEEP_ROW(3, "family 3"),
@@ -328,9 +388,43 @@ static void print_row(const struct row *row, struct samples *samples)
     printf(" %.2f | %.2f |\n", medians[LIBRARY] / medians[PLAIN], medians[LIBRARY] / medians[TUNED]);
 }
 
+/* What a row costs, in times of the row before. */
+static void print_times(const struct row *row, struct samples *samples)
+{
+    printf("| %s |", row->name);
+    for (int who = 0; who < CONTENDERS; who++)
+        printf(" %.2f |", median(row, samples, who) / median(row - 1, samples - 1, who));
+    printf(" %.1f |\n", row->at_most);
+}
+
+static void print_head(const char *first, const char *last)
+{
+    printf("|%s |", first);
+    for (int who = 0; who < CONTENDERS; who++)
+        printf(" %s |", contenders[who].name);
+    printf(" %s |\n|---|---:|---:|---:|---:|", last);
+}
+
+enum { ROWS = sizeof rows / sizeof *rows };
+
+static void print_tables(struct samples *samples)
+{
+    printf("C compiled by %s, -O3; medians of %d rounds\n\n", COMPILER, ROUNDS);
+    print_head("", "to plain | to tuned");
+    printf("---:|\n");
+    for (int i = 0; i < ROWS; i++)
+        print_row(&rows[i], &samples[i]);
+    printf("\n");
+    print_head(" in times of the same job with 1 row", "at most");
+    printf("\n");
+    for (int i = 0; i < ROWS; i++)
+        if (rows[i].at_most > 0)
+            print_times(&rows[i], &samples[i]);
+    printf("\n");
+}
+
 int main(void)
 {
-    enum { ROWS = sizeof rows / sizeof *rows };
     static struct samples samples[ROWS];
     for (int round = 0; round < ROUNDS; round++)
         for (int i = 0; i < ROWS; i++) {
@@ -338,12 +432,6 @@ int main(void)
             compare(&rows[i]);
             measure(&rows[i], &samples[i]);
         }
-    printf("C compiled by %s, -O3; medians of %d rounds\n\n", COMPILER, ROUNDS);
-    printf("| | %s | %s | %s | to plain | to tuned |\n", contenders[LIBRARY].name,
-           contenders[PLAIN].name, contenders[TUNED].name);
-    printf("|---|---:|---:|---:|---:|---:|\n");
-    for (int i = 0; i < ROWS; i++)
-        print_row(&rows[i], &samples[i]);
-    printf("\n");
+    print_tables(samples);
     return 0;
 }

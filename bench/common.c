@@ -52,92 +52,148 @@ struct windowfloor_table_answer check_table(const struct parts *parts,
     return answer;
 }
 
-/* Jobs: the sizes are mapped in a list of their own, and copied when all steps are accepted. */
+/* Jobs: the fields. A list is the sizes with their capacity, or a row with its right side. */
 
-enum { HEAD = 3, MOST_FIELDS = HEAD + WINDOWFLOOR_MOST_STEPS };
-
-struct field {
+struct step {
     uint8_t tag;
     size_t length;
     const uint8_t *value;
 };
 
-struct chain {
-    uint64_t scale;
+struct list {
+    uint64_t capacity;
     size_t n;
-    uint32_t images[WINDOWFLOOR_MOST_SIZES];
+    const uint8_t *sizes;
 };
 
-static uint32_t word(const uint8_t *at)
+struct contents {
+    uint8_t kind, last_tag; /* 0: not yet read */
+    size_t lists, sizes, steps;
+    struct list list[WINDOWFLOOR_MOST_ROWS]; /* the first of them; there may be more */
+    struct step step[WINDOWFLOOR_MOST_STEPS];
+};
+
+static int step_in_place(const struct contents *c)
 {
-    return (uint32_t)at[0] << 24 | (uint32_t)at[1] << 16 | (uint32_t)at[2] << 8 | at[3];
+    int head_read = c->kind == WINDOWFLOOR_KIND_ROWS || c->last_tag >= WINDOWFLOOR_TAG_SIZES;
+    return head_read && c->steps < WINDOWFLOOR_MOST_STEPS;
 }
 
-static void decode(const uint8_t *bytes, uint32_t *out, size_t n)
+static int tag_in_place(const struct contents *c, uint8_t tag)
 {
-    for (size_t i = 0; i < n; i++)
-        out[i] = word(bytes + 4 * i);
-}
-
-static int tag_in_place(uint8_t tag, size_t before)
-{
-    if (before < HEAD)
-        return tag == before + 1;
-    return before < MOST_FIELDS && (tag == WINDOWFLOOR_TAG_FAMILY || tag == WINDOWFLOOR_TAG_TABLE);
+    switch (tag) {
+    case WINDOWFLOOR_TAG_KIND:
+        return c->last_tag == 0;
+    case WINDOWFLOOR_TAG_CAPACITY: case WINDOWFLOOR_TAG_SIZES:
+        return c->kind != WINDOWFLOOR_KIND_ROWS && c->last_tag == tag - 1;
+    case WINDOWFLOOR_TAG_FAMILY: case WINDOWFLOOR_TAG_TABLE:
+        return step_in_place(c);
+    default:
+        return tag == WINDOWFLOOR_TAG_ROW && c->kind == WINDOWFLOOR_KIND_ROWS && c->steps == 0;
+    }
 }
 
 static int length_right(uint8_t tag, size_t length)
 {
     switch (tag) {
-    case 1: return length == 1;
-    case 2: return length == 4;
-    case 3: return length % 4 == 0 && length <= 8192;
-    case 4: return length == 9;
-    default: return length % 4 == 0 && length >= 8 && length <= 8192;
+    case WINDOWFLOOR_TAG_KIND: return length == 1;
+    case WINDOWFLOOR_TAG_CAPACITY: return length == 4;
+    case WINDOWFLOOR_TAG_SIZES: return length % 4 == 0 && length <= 8192;
+    case WINDOWFLOOR_TAG_FAMILY: return length == 9;
+    case WINDOWFLOOR_TAG_TABLE: return length % 4 == 0 && length >= 8 && length <= 8192;
+    default: return length % 4 == 0 && length >= 4;
     }
 }
 
-static uint64_t read_fields(const uint8_t *job, size_t bytes, struct field *fields, size_t *count)
+static void add_row(struct contents *c, const uint8_t *value, size_t length)
 {
-    size_t at = 0, n = 0;
-    while (at < bytes) {
+    struct list row = {word(value), length / 4 - 1, value + 4};
+    if (c->lists < WINDOWFLOOR_MOST_ROWS)
+        c->list[c->lists] = row;
+    c->lists++;
+    c->sizes += row.n;
+}
+
+static void add_field(struct contents *c, uint8_t tag, const uint8_t *value, size_t length)
+{
+    c->last_tag = tag;
+    switch (tag) {
+    case WINDOWFLOOR_TAG_KIND:
+        c->kind = value[0];
+        break;
+    case WINDOWFLOOR_TAG_CAPACITY:
+        c->list[0].capacity = word(value);
+        break;
+    case WINDOWFLOOR_TAG_SIZES:
+        c->lists = 1;
+        c->list[0].sizes = value;
+        c->list[0].n = c->sizes = length / 4;
+        break;
+    case WINDOWFLOOR_TAG_ROW:
+        add_row(c, value, length);
+        break;
+    default:
+        c->step[c->steps++] = (struct step){tag, length, value};
+    }
+}
+
+/* What a job may not be as a whole, once its fields are read. */
+static uint64_t judge_contents(const struct contents *c)
+{
+    if (c->kind == WINDOWFLOOR_KIND_ROWS)
+        return c->lists < 1 || c->lists > WINDOWFLOOR_MOST_ROWS || c->sizes > WINDOWFLOOR_MOST_SIZES
+            ? WINDOWFLOOR_BAD_ROWS : 0;
+    if (c->last_tag < WINDOWFLOOR_TAG_SIZES)
+        return WINDOWFLOOR_BAD_TAG;
+    return c->kind != WINDOWFLOOR_KIND_FLOOR && c->kind != WINDOWFLOOR_KIND_CUT
+        ? WINDOWFLOOR_BAD_KIND : 0;
+}
+
+static uint64_t read_fields(const uint8_t *job, size_t bytes, struct contents *c)
+{
+    c->kind = c->last_tag = 0;
+    c->lists = c->sizes = c->steps = 0;
+    for (size_t at = 0; at < bytes;) {
         if (bytes - at < 3)
             return WINDOWFLOOR_PAST_THE_END;
-        struct field f = {job[at], (size_t)job[at + 1] << 8 | job[at + 2], job + at + 3};
-        if (bytes - at - 3 < f.length)
+        size_t length = (size_t)job[at + 1] << 8 | job[at + 2];
+        if (bytes - at - 3 < length)
             return WINDOWFLOOR_PAST_THE_END;
-        if (!tag_in_place(f.tag, n))
+        if (!tag_in_place(c, job[at]))
             return WINDOWFLOOR_BAD_TAG;
-        if (!length_right(f.tag, f.length))
+        if (!length_right(job[at], length))
             return WINDOWFLOOR_BAD_LENGTH;
-        fields[n++] = f;
-        at += 3 + f.length;
+        add_field(c, job[at], job + at + 3, length);
+        at += 3 + length;
     }
-    *count = n;
-    return n < HEAD ? WINDOWFLOOR_BAD_TAG : 0;
+    return judge_contents(c);
 }
 
-static uint64_t start_chain(const struct field *fields, struct chain *chain)
+/* Jobs: each list is mapped in its part of an array that is copied when all steps of all are accepted. */
+
+struct chain {
+    uint64_t scale;
+    size_t n;
+    uint32_t *images;
+};
+
+static uint64_t start_chain(const struct list *list, uint32_t least, struct chain *chain)
 {
-    uint8_t kind = fields[0].value[0];
-    uint32_t least = kind == WINDOWFLOOR_KIND_FLOOR ? 1 : 0;
-    if (kind != WINDOWFLOOR_KIND_FLOOR && kind != WINDOWFLOOR_KIND_CUT)
-        return WINDOWFLOOR_BAD_KIND;
-    chain->scale = word(fields[1].value);
-    if (chain->scale < 1 || chain->scale > LIMIT)
+    if (list->capacity < 1 || list->capacity > LIMIT)
         return WINDOWFLOOR_BAD_CAPACITY;
-    chain->n = fields[2].length / 4;
-    decode(fields[2].value, chain->images, chain->n);
+    chain->scale = list->capacity;
+    chain->n = list->n;
+    decode(list->sizes, chain->images, chain->n);
     for (size_t i = 0; i < chain->n; i++)
         if (chain->images[i] < least || chain->images[i] > chain->scale)
             return WINDOWFLOOR_BAD_SIZE;
     return 0;
 }
 
-static uint64_t family_step(const struct parts *parts, struct field f, struct chain *chain)
+static uint64_t family_step(const struct parts *parts, const struct step *step, struct chain *chain)
 {
-    uint8_t family = f.value[0];
-    uint64_t p = word(f.value + 1), q = word(f.value + 5), scale;
+    uint8_t family = step->value[0];
+    uint64_t p = word(step->value + 1), q = word(step->value + 5), scale;
     uint64_t number = judge_family(chain->scale, family, p, q, &scale);
     if (number != 0)
         return number;
@@ -146,12 +202,12 @@ static uint64_t family_step(const struct parts *parts, struct field f, struct ch
     return 0;
 }
 
-static uint64_t table_step(const struct parts *parts, struct field f, struct chain *chain,
+static uint64_t table_step(const struct parts *parts, const struct step *step, struct chain *chain,
                            uint64_t *working, uint32_t *list, uint64_t *length)
 {
     uint32_t table[WINDOWFLOOR_MOST_ENTRIES];
-    size_t entries = f.length / 4;
-    decode(f.value, table, entries);
+    size_t entries = step->length / 4;
+    decode(step->value, table, entries);
     struct windowfloor_table_answer checked =
         check_table(parts, table, entries, working, WINDOWFLOOR_JOB_WORKING, list,
                     WINDOWFLOOR_JOB_LIST);
@@ -166,12 +222,38 @@ static uint64_t table_step(const struct parts *parts, struct field f, struct cha
     return 0;
 }
 
-static void accept(uint8_t kind, const struct chain *chain, uint32_t *images,
-                   struct windowfloor_job_answer *answer)
+/* A table step of a later row: the table is known to be dual-feasible. */
+static uint64_t known_table_step(const struct parts *parts, const struct step *step,
+                                 struct chain *chain)
 {
-    answer->n = chain->n;
+    size_t entries = step->length / 4;
+    if (entries - 1 != chain->scale)
+        return WINDOWFLOOR_OTHER_CAPACITY;
+    parts->map_table(step->value, entries, chain->images, chain->n);
+    chain->scale = word(step->value + 4 * (entries - 1));
+    return 0;
+}
+
+/* The steps of one list; a refusal's number, step and length go into the answer. */
+static void run_steps(const struct parts *parts, const struct contents *c, int first,
+                      struct chain *chain, uint64_t *working, uint32_t *list,
+                      struct windowfloor_job_answer *answer)
+{
+    for (size_t i = 0; i < c->steps && answer->number == 0; i++) {
+        const struct step *step = &c->step[i];
+        if (step->tag == WINDOWFLOOR_TAG_FAMILY)
+            answer->number = family_step(parts, step, chain);
+        else if (first)
+            answer->number = table_step(parts, step, chain, working, list, &answer->length);
+        else
+            answer->number = known_table_step(parts, step, chain);
+        answer->step = answer->number == 0 ? 0 : i + 1;
+    }
+}
+
+static void accept(uint8_t kind, const struct chain *chain, struct windowfloor_job_answer *answer)
+{
     answer->scale = chain->scale;
-    memcpy(images, chain->images, chain->n * sizeof *images);
     if (kind == WINDOWFLOOR_KIND_CUT)
         return;
     for (size_t i = 0; i < chain->n; i++)
@@ -179,33 +261,47 @@ static void accept(uint8_t kind, const struct chain *chain, uint32_t *images,
     answer->floor = round_up(answer->sum, answer->scale);
 }
 
+static void run_lists(const struct parts *parts, const struct contents *c, uint32_t *images,
+                      uint64_t *working, uint32_t *list, uint32_t *scales,
+                      struct windowfloor_job_answer *answer)
+{
+    uint32_t mapped[WINDOWFLOOR_MOST_SIZES], reached[WINDOWFLOOR_MOST_ROWS];
+    struct chain chain = {0, 0, mapped};
+    int rows = c->kind == WINDOWFLOOR_KIND_ROWS;
+    for (size_t i = 0; i < c->lists && answer->number == 0; i++) {
+        chain.images += chain.n;
+        answer->number = start_chain(&c->list[i], c->kind == WINDOWFLOOR_KIND_FLOOR, &chain);
+        run_steps(parts, c, i == 0, &chain, working, list, answer);
+        reached[i] = (uint32_t)chain.scale;
+        answer->row = rows && answer->number != 0 ? i + 1 : 0;
+    }
+    if (answer->number != 0)
+        return;
+    answer->n = c->sizes;
+    memcpy(images, mapped, c->sizes * sizeof *images);
+    if (rows)
+        memcpy(scales, reached, c->lists * sizeof *scales);
+    else
+        accept(c->kind, &chain, answer);
+}
+
 struct windowfloor_job_answer run_job(const struct parts *parts, const uint8_t *job, size_t bytes,
                                       uint32_t *images, size_t images_places,
                                       uint64_t *working, size_t working_places,
-                                      uint32_t *list, size_t list_places)
+                                      uint32_t *list, size_t list_places,
+                                      uint32_t *scales, size_t scales_places)
 {
-    struct windowfloor_job_answer answer = {0, 0, 0, 0, 0, 0, 0};
-    struct field fields[MOST_FIELDS];
-    struct chain chain;
-    size_t count = 0;
+    struct windowfloor_job_answer answer = {0, 0, 0, 0, 0, 0, 0, 0};
+    struct contents contents;
     if (bytes > WINDOWFLOOR_MOST_JOB_BYTES)
         answer.number = WINDOWFLOOR_JOB_TOO_LONG;
     else if (images_places < WINDOWFLOOR_JOB_IMAGES || working_places < WINDOWFLOOR_JOB_WORKING
-             || list_places < WINDOWFLOOR_JOB_LIST)
+             || list_places < WINDOWFLOOR_JOB_LIST || scales_places < WINDOWFLOOR_JOB_SCALES)
         answer.number = WINDOWFLOOR_SHORT_BUFFER;
     else
-        answer.number = read_fields(job, bytes, fields, &count);
+        answer.number = read_fields(job, bytes, &contents);
     if (answer.number == 0)
-        answer.number = start_chain(fields, &chain);
-    for (size_t i = HEAD; i < count && answer.number == 0; i++) {
-        answer.number = fields[i].tag == WINDOWFLOOR_TAG_FAMILY
-            ? family_step(parts, fields[i], &chain)
-            : table_step(parts, fields[i], &chain, working, list, &answer.length);
-        if (answer.number != 0)
-            answer.step = i - HEAD + 1;
-    }
-    if (answer.number == 0)
-        accept(fields[0].value[0], &chain, images, &answer);
+        run_lists(parts, &contents, images, working, list, scales, &answer);
     return answer;
 }
 

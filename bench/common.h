@@ -53,6 +53,18 @@ static inline uint64_t judge_family(uint64_t capacity, uint8_t family, uint64_t 
     return *scale > LIMIT ? WINDOWFLOOR_SCALE_TOO_LARGE : 0;
 }
 
+/* A number of a job: four bytes, high byte first. */
+static inline uint32_t word(const uint8_t *at)
+{
+    return (uint32_t)at[0] << 24 | (uint32_t)at[1] << 16 | (uint32_t)at[2] << 8 | at[3];
+}
+
+static inline void decode(const uint8_t *bytes, uint32_t *out, size_t n)
+{
+    for (size_t i = 0; i < n; i++)
+        out[i] = word(bytes + 4 * i);
+}
+
 /* Where plain and tuned C differ. */
 typedef struct windowfloor_image_answer image_function(uint64_t capacity, uint8_t family, uint64_t p,
                                                        uint64_t q, uint64_t x);
@@ -63,6 +75,8 @@ struct parts {
     void (*fill_bests)(const uint32_t *table, size_t capacity, uint64_t *best);
     void (*map_family)(uint64_t capacity, uint8_t family, uint64_t p, uint64_t q, uint32_t *list,
                        size_t n);
+    /* by a table that an earlier row has had checked; its entries as they lie in the job */
+    void (*map_table)(const uint8_t *table, size_t entries, uint32_t *list, size_t n);
     uint64_t (*sum_of_images)(uint64_t capacity, uint8_t family, uint64_t p, const uint32_t *sizes,
                               size_t n);
 };
@@ -78,7 +92,8 @@ struct windowfloor_table_answer check_table(const struct parts *parts,
 struct windowfloor_job_answer run_job(const struct parts *parts, const uint8_t *job, size_t bytes,
                                       uint32_t *images, size_t images_places,
                                       uint64_t *working, size_t working_places,
-                                      uint32_t *list, size_t list_places);
+                                      uint32_t *list, size_t list_places,
+                                      uint32_t *scales, size_t scales_places);
 
 struct windowfloor_sweep_answer run_sweep(const struct parts *parts, uint64_t capacity,
                                           uint8_t family, const uint32_t *sizes, size_t n,

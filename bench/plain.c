@@ -1,4 +1,5 @@
-/* The operations as most would write them: each image from its formula, each best over all sizes. */
+/* The operations as most would write them: each image from its formula, each best over all sizes, a table
+ * decoded for each row. */
 #include "common.h"
 
 static uint64_t threshold(uint64_t capacity, uint64_t p, uint64_t x)
@@ -108,6 +109,14 @@ static void map_family(uint64_t capacity, uint8_t family, uint64_t p, uint64_t q
         list[i] = (uint32_t)image_of(capacity, family, p, q, list[i]);
 }
 
+static void map_table(const uint8_t *table, size_t entries, uint32_t *list, size_t n)
+{
+    uint32_t images[WINDOWFLOOR_MOST_ENTRIES];
+    decode(table, images, entries);
+    for (size_t i = 0; i < n; i++)
+        list[i] = images[list[i]];
+}
+
 static uint64_t sum_of_images(uint64_t capacity, uint8_t family, uint64_t p, const uint32_t *sizes,
                               size_t n)
 {
@@ -117,4 +126,4 @@ static uint64_t sum_of_images(uint64_t capacity, uint8_t family, uint64_t p, con
     return sum;
 }
 
-const struct parts plain_parts = {fill_bests, map_family, sum_of_images};
+const struct parts plain_parts = {fill_bests, map_family, map_table, sum_of_images};

@@ -1,6 +1,7 @@
 /* The operations tuned: the family is chosen once, a step is prepared once, mirrored families fold
- * y = min(x, C - x), formulas have no branches on data, and the table check looks at half of the sums,
- * two at a time. */
+ * y = min(x, C - x), formulas have no branches on data, the table check looks at half of the sums, two at a
+ * time, and a table's entries are decoded once: rows behind the first read those they need where they
+ * lie. */
 #include "common.h"
 
 /* What a step's formula needs and the size does not change. */
@@ -109,6 +110,13 @@ static void map_family(uint64_t capacity, uint8_t family, uint64_t p, uint64_t q
 #undef EACH
 }
 
+static void map_table(const uint8_t *table, size_t entries, uint32_t *list, size_t n)
+{
+    (void)entries;
+    for (size_t i = 0; i < n; i++)
+        list[i] = word(table + 4 * (size_t)list[i]);
+}
+
 static uint64_t sum_of_images(uint64_t capacity, uint8_t family, uint64_t p, const uint32_t *sizes,
                               size_t n)
 {
@@ -167,4 +175,4 @@ static void fill_bests(const uint32_t *table, size_t capacity, uint64_t *best)
     }
 }
 
-const struct parts tuned_parts = {fill_bests, map_family, sum_of_images};
+const struct parts tuned_parts = {fill_bests, map_family, map_table, sum_of_images};

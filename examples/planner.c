@@ -1,7 +1,9 @@
-/* The best floor for a list of sizes, and the cut that the same step makes of them as a row.
+/* The best floor for a list of sizes, and the cut that the same step makes of them as a row; or the cuts
+ * that the steps given make of all rows of a model, in one job.
  *
  *     planner CAPACITY SIZE...
- *     planner FILE              the same numbers, in a file
+ *     planner FILE                            the same numbers, in a file
+ *     planner --rows FILE [FAMILY P Q]...     each line of the file is a row: right side, coefficients
  *
  * Exit status: 1 if the library refuses, 2 if the numbers cannot be read or the answer not written.
  */
@@ -27,19 +29,36 @@ struct list {
 
 struct step {
     uint8_t family; /* 0: no step */
-    uint64_t p, floor;
+    uint64_t p, q, floor;
 };
 
-static void stop_if_refused(const char *operation, uint64_t number)
+struct row {
+    uint32_t right_side;
+    size_t first, n; /* the place of its first coefficient among those of all rows, and how many */
+};
+
+struct model {
+    size_t rows, n, steps;
+    struct row row[WINDOWFLOOR_MOST_ROWS];
+    uint32_t coefficients[WINDOWFLOOR_MOST_SIZES];
+    struct step step[WINDOWFLOOR_MOST_STEPS];
+};
+
+/* The row and the step where the answer names them. */
+static void stop_if_refused(const char *operation, uint64_t number, uint64_t row, uint64_t step)
 {
     if (number == WINDOWFLOOR_ACCEPTED)
         return;
-    printf("%s refused, number %" PRIu64 ": %s\n", operation, number,
-           windowfloor_refusal_text(number));
+    printf("%s refused, number %" PRIu64, operation, number);
+    if (row > 0)
+        printf(", row %" PRIu64, row);
+    if (step > 0)
+        printf(", step %" PRIu64, step);
+    printf(": %s\n", windowfloor_refusal_text(number));
     exit(1);
 }
 
-/* Reading the list: words of digits alone, in a file or as arguments. The first word that is wrong
+/* Reading numbers: words of digits alone, in a file or as arguments. The first word that is wrong
  * ends the program, which tells its place. */
 
 enum { SHOWN = 20 }; /* characters of a wrong word that are shown */
@@ -105,15 +124,19 @@ static void add_character(struct word *word, unsigned char c)
         word->number = 10 * word->number + digit;
 }
 
-/* Why the word is no number, or none of the list; NULL if it is one. */
-static const char *fault_of(const struct word *word, const struct list *list)
+/* Why the word is no number; NULL if it is one. */
+static const char *fault_of(const struct word *word)
 {
     if (word->length > 0 && (word->start[0] == '-' || word->start[0] == '+'))
         return "starts with a sign";
     if (word->length == 0 || !word->all_digits)
         return "not a number";
-    if (word->too_large)
-        return "a number of more than 64 bits";
+    return word->too_large ? "a number of more than 64 bits" : NULL;
+}
+
+/* Why it is none of the list. */
+static const char *fault_in_list(const struct word *word, const struct list *list)
+{
     if (list->has_capacity && list->n == WINDOWFLOOR_MOST_SIZES)
         return "more sizes than a job can have";
     if (list->has_capacity && word->number > UINT32_MAX)
@@ -121,16 +144,46 @@ static const char *fault_of(const struct word *word, const struct list *list)
     return NULL;
 }
 
-static void add_word(struct list *list, const struct word *word, const struct place *place)
+/* Why it is none of the model. */
+static const char *fault_in_row(const struct word *word, const struct model *model, int starts_row)
 {
-    const char *fault = fault_of(word, list);
+    if (starts_row && model->rows == WINDOWFLOOR_MOST_ROWS)
+        return "more rows than a job can have";
+    if (!starts_row && model->n == WINDOWFLOOR_MOST_SIZES)
+        return "more coefficients than a job can have";
+    return word->number > UINT32_MAX ? "a number of more than 32 bits" : NULL;
+}
+
+static void stop_if(const char *fault, const struct place *place, const struct word *word)
+{
     if (fault != NULL)
         stop_at_word(place, fault, word);
+}
+
+static void add_word(struct list *list, const struct word *word, const struct place *place)
+{
+    stop_if(fault_of(word), place, word);
+    stop_if(fault_in_list(word, list), place, word);
     if (list->has_capacity) {
         list->sizes[list->n++] = (uint32_t)word->number;
     } else {
         list->capacity = word->number;
         list->has_capacity = 1;
+    }
+}
+
+/* The first word of a line is a right side, the others are coefficients. */
+static void add_to_model(struct model *model, const struct word *word, const struct place *place,
+                         int starts_row)
+{
+    stop_if(fault_of(word), place, word);
+    stop_if(fault_in_row(word, model, starts_row), place, word);
+    if (starts_row) {
+        struct row row = {(uint32_t)word->number, model->n, 0};
+        model->row[model->rows++] = row;
+    } else {
+        model->coefficients[model->n++] = (uint32_t)word->number;
+        model->row[model->rows - 1].n++;
     }
 }
 
@@ -149,15 +202,21 @@ static int read_word(FILE *file, struct place *place, struct word *word)
     return word->length > 0;
 }
 
-static void read_file(struct list *list, const char *name)
+static FILE *open_file(const char *name)
 {
-    struct place place = {name, 1};
-    struct word word;
     FILE *file = fopen(name, "r");
     if (file == NULL) {
         fprintf(stderr, "planner: %s: %s\n", name, strerror(errno));
         exit(2);
     }
+    return file;
+}
+
+static void read_file(struct list *list, const char *name)
+{
+    struct place place = {name, 1};
+    struct word word;
+    FILE *file = open_file(name);
     while (read_word(file, &place, &word))
         add_word(list, &word, &place);
     if (!list->has_capacity)
@@ -165,28 +224,72 @@ static void read_file(struct list *list, const char *name)
     fclose(file);
 }
 
-static void read_argument(struct list *list, const char *argument, unsigned long number)
+static void read_rows(struct model *model, const char *name)
 {
-    struct place place = {NULL, number};
+    struct place place = {name, 1};
+    struct word word;
+    unsigned long line_of_row = 0;
+    FILE *file = open_file(name);
+    while (read_word(file, &place, &word)) {
+        add_to_model(model, &word, &place, place.count != line_of_row);
+        line_of_row = place.count;
+    }
+    fclose(file);
+}
+
+static struct word word_of(const char *argument)
+{
     struct word word;
     start_word(&word);
     for (; *argument != '\0'; argument++)
         add_character(&word, (unsigned char)*argument);
-    add_word(list, &word, &place);
+    return word;
+}
+
+static void stop_with_usage(void)
+{
+    fprintf(stderr, "planner: usage: planner CAPACITY SIZE... | planner FILE"
+                    " | planner --rows FILE [FAMILY P Q]...\n");
+    exit(2);
 }
 
 static void read_list(struct list *list, int argc, char **argv)
 {
-    if (argc < 2) {
-        fprintf(stderr, "planner: usage: planner CAPACITY SIZE... | planner FILE\n");
-        exit(2);
-    }
     if (argc == 2) {
         read_file(list, argv[1]);
         return;
     }
-    for (int i = 1; i < argc; i++)
-        read_argument(list, argv[i], (unsigned long)i);
+    for (int i = 1; i < argc; i++) {
+        struct place place = {NULL, (unsigned long)i};
+        struct word word = word_of(argv[i]);
+        add_word(list, &word, &place);
+    }
+}
+
+/* A number of a step: the family has a byte, the others have 32 bits. */
+static uint32_t step_number(char **argv, int i, uint32_t most)
+{
+    struct place place = {NULL, (unsigned long)i};
+    struct word word = word_of(argv[i]);
+    stop_if(fault_of(&word), &place, &word);
+    if (word.number > most)
+        stop_at_word(&place, "a number too large for a step", &word);
+    return (uint32_t)word.number;
+}
+
+static void read_model(struct model *model, int argc, char **argv)
+{
+    enum { FIRST_STEP = 3, NUMBERS = 3 };
+    if (argc < FIRST_STEP || (argc - FIRST_STEP) % NUMBERS != 0
+        || argc - FIRST_STEP > NUMBERS * (int)WINDOWFLOOR_MOST_STEPS)
+        stop_with_usage();
+    for (int i = FIRST_STEP; i < argc; i += NUMBERS) {
+        struct step *step = &model->step[model->steps++];
+        step->family = (uint8_t)step_number(argv, i, UINT8_MAX);
+        step->p = step_number(argv, i + 1, UINT32_MAX);
+        step->q = step_number(argv, i + 2, UINT32_MAX);
+    }
+    read_rows(model, argv[2]);
 }
 
 /* Writing a job: fields of a tag, a two-byte length and a value, numbers high byte first */
@@ -208,36 +311,71 @@ static void put_header(struct job *job, uint8_t tag, size_t length)
     put(job, length, 2);
 }
 
-static void write_job(struct job *job, uint8_t kind, const struct list *list, struct step step)
+static void put_list(struct job *job, const uint32_t *numbers, size_t n)
+{
+    for (size_t i = 0; i < n; i++)
+        put(job, numbers[i], 4);
+}
+
+static void put_step(struct job *job, struct step step)
+{
+    put_header(job, WINDOWFLOOR_TAG_FAMILY, 9);
+    put(job, step.family, 1);
+    put(job, step.p, 4);
+    put(job, step.q, 4);
+}
+
+static void start_job(struct job *job, uint8_t kind)
 {
     job->length = 0;
     put_header(job, WINDOWFLOOR_TAG_KIND, 1);
     put(job, kind, 1);
+}
+
+static void write_list(struct job *job, uint8_t kind, const struct list *list, struct step step)
+{
+    start_job(job, kind);
     put_header(job, WINDOWFLOOR_TAG_CAPACITY, 4);
     put(job, list->capacity, 4);
     put_header(job, WINDOWFLOOR_TAG_SIZES, 4 * list->n);
-    for (size_t i = 0; i < list->n; i++)
-        put(job, list->sizes[i], 4);
-    if (step.family == 0)
-        return;
-    put_header(job, WINDOWFLOOR_TAG_FAMILY, 9);
-    put(job, step.family, 1);
-    put(job, step.p, 4);
-    put(job, 0, 4); /* q */
+    put_list(job, list->sizes, list->n);
+    if (step.family != 0)
+        put_step(job, step);
 }
 
-static struct windowfloor_job_answer run_job(uint8_t kind, const struct list *list,
-                                             struct step step, uint32_t *images)
+static void write_model(struct job *job, const struct model *model)
 {
-    static struct job job;
+    start_job(job, WINDOWFLOOR_KIND_ROWS);
+    for (size_t i = 0; i < model->rows; i++) {
+        struct row row = model->row[i];
+        put_header(job, WINDOWFLOOR_TAG_ROW, 4 + 4 * row.n);
+        put(job, row.right_side, 4);
+        put_list(job, model->coefficients + row.first, row.n);
+    }
+    for (size_t i = 0; i < model->steps; i++)
+        put_step(job, model->step[i]);
+}
+
+static struct windowfloor_job_answer run_job(const struct job *job, uint32_t *images,
+                                             uint32_t *scales)
+{
     static uint64_t working[WINDOWFLOOR_JOB_WORKING];
     static uint32_t counterexample[WINDOWFLOOR_JOB_LIST];
-    write_job(&job, kind, list, step);
     struct windowfloor_job_answer answer =
-        windowfloor_job(job.bytes, job.length, images, WINDOWFLOOR_JOB_IMAGES, working,
-                        WINDOWFLOOR_JOB_WORKING, counterexample, WINDOWFLOOR_JOB_LIST);
-    stop_if_refused("job", answer.number);
+        windowfloor_job(job->bytes, job->length, images, WINDOWFLOOR_JOB_IMAGES, working,
+                        WINDOWFLOOR_JOB_WORKING, counterexample, WINDOWFLOOR_JOB_LIST, scales,
+                        WINDOWFLOOR_JOB_SCALES);
+    stop_if_refused("job", answer.number, answer.row, answer.step);
     return answer;
+}
+
+static struct windowfloor_job_answer run_list(uint8_t kind, const struct list *list,
+                                              struct step step, uint32_t *images)
+{
+    static struct job job;
+    static uint32_t scales[WINDOWFLOOR_JOB_SCALES]; /* kinds 1 and 2 leave it as it is */
+    write_list(&job, kind, list, step);
+    return run_job(&job, images, scales);
 }
 
 /* The sweeps. From 1 on, the p of a family that are legal with a scale within the limit are one run of
@@ -259,14 +397,14 @@ static int is_legal(const struct list *list, uint8_t family, uint64_t p)
 
 static struct swept sweep_family(const struct list *list, uint8_t family)
 {
-    struct swept swept = {{family, 0, 0}, 0, 0};
+    struct swept swept = {{family, 0, 0, 0}, 0, 0};
     for (int range = 0; range < MOST_RANGES; range++) {
         uint64_t low = swept.tried + 1, high = low + WINDOWFLOOR_MOST_SPAN;
         struct windowfloor_sweep_answer answer =
             windowfloor_sweep(list->capacity, family, list->sizes, list->n, low, high);
         if (answer.number == WINDOWFLOOR_NO_LEGAL_P)
             break;
-        stop_if_refused("sweep", answer.number);
+        stop_if_refused("sweep", answer.number, 0, 0);
         if (swept.best.p == 0 || answer.floor > swept.best.floor) {
             swept.best.p = answer.p;
             swept.best.floor = answer.floor;
@@ -294,7 +432,7 @@ static void print_swept(const struct swept *swept)
 /* The best of all sweeps and of no step at all. */
 static struct step best_step(const struct list *list, uint64_t floor_without)
 {
-    struct step best = {0, 0, floor_without};
+    struct step best = {0, 0, 0, floor_without};
     for (uint8_t family = 1; family <= WINDOWFLOOR_SWEEP_FAMILIES; family++) {
         struct swept swept = sweep_family(list, family);
         print_swept(&swept);
@@ -312,12 +450,11 @@ static void print_best(struct step best)
     printf("\n");
 }
 
-static void print_cut(const uint32_t *images, struct windowfloor_job_answer cut)
+static void print_row(const uint32_t *coefficients, size_t n, uint64_t right_side)
 {
-    printf("cut:");
-    for (size_t i = 0; i < cut.n; i++)
-        printf("%s %" PRIu32 " x%zu", i > 0 ? " +" : "", images[i], i + 1);
-    printf(" <= %" PRIu64 "\n", cut.scale);
+    for (size_t i = 0; i < n; i++)
+        printf("%s %" PRIu32 " x%zu", i > 0 ? " +" : "", coefficients[i], i + 1);
+    printf(" <= %" PRIu64 "\n", right_side);
 }
 
 /* What one more size of half a window would add. */
@@ -326,28 +463,59 @@ static void print_half(const struct list *list, struct step step)
     uint64_t half = (list->capacity + 1) / 2;
     struct windowfloor_image_answer answer =
         windowfloor_image(list->capacity, step.family, step.p, 0, half);
-    stop_if_refused("image", answer.number);
+    stop_if_refused("image", answer.number, 0, 0);
     printf("one more size of %" PRIu64 " would add %" PRIu64 " to a sum that is divided by %" PRIu64
            "\n", half, answer.image, answer.scale);
+}
+
+static void plan_list(const struct list *list)
+{
+    static uint32_t images[WINDOWFLOOR_JOB_IMAGES];
+    struct step none = {0, 0, 0, 0};
+    if (list->capacity > UINT32_MAX)
+        stop_if_refused("job", WINDOWFLOOR_BAD_CAPACITY, 0, 0); /* a job has four bytes for it */
+    uint64_t without = run_list(WINDOWFLOOR_KIND_FLOOR, list, none, images).floor;
+    printf("capacity %" PRIu64 ", %zu sizes\n", list->capacity, list->n);
+    printf("  %-19s           floor %" PRIu64 "\n", families[0], without);
+    struct step best = best_step(list, without);
+    print_best(best);
+    struct windowfloor_job_answer cut = run_list(WINDOWFLOOR_KIND_CUT, list, best, images);
+    printf("cut:");
+    print_row(images, cut.n, cut.scale);
+    if (best.family != 0)
+        print_half(list, best);
+}
+
+/* The images of a row lie where its coefficients lay, and the right side of its cut has the row's place. */
+static void plan_model(const struct model *model)
+{
+    static struct job job;
+    static uint32_t images[WINDOWFLOOR_JOB_IMAGES], scales[WINDOWFLOOR_JOB_SCALES];
+    write_model(&job, model);
+    run_job(&job, images, scales);
+    printf("%zu rows, %zu steps\n", model->rows, model->steps);
+    for (size_t i = 0; i < model->rows; i++) {
+        struct row row = model->row[i];
+        printf("row %zu:", i + 1);
+        print_row(model->coefficients + row.first, row.n, row.right_side);
+        printf("  cut:");
+        print_row(images + row.first, row.n, scales[i]);
+    }
 }
 
 int main(int argc, char **argv)
 {
     static struct list list;
-    static uint32_t images[WINDOWFLOOR_JOB_IMAGES];
-    struct step none = {0, 0, 0};
-    read_list(&list, argc, argv);
-    if (list.capacity > UINT32_MAX)
-        stop_if_refused("job", WINDOWFLOOR_BAD_CAPACITY); /* a job has four bytes for it */
-    uint64_t without = run_job(WINDOWFLOOR_KIND_FLOOR, &list, none, images).floor;
-    printf("capacity %" PRIu64 ", %zu sizes\n", list.capacity, list.n);
-    printf("  %-19s           floor %" PRIu64 "\n", families[0], without);
-    struct step best = best_step(&list, without);
-    print_best(best);
-    struct windowfloor_job_answer cut = run_job(WINDOWFLOOR_KIND_CUT, &list, best, images);
-    print_cut(images, cut);
-    if (best.family != 0)
-        print_half(&list, best);
+    static struct model model;
+    if (argc < 2)
+        stop_with_usage();
+    if (strcmp(argv[1], "--rows") == 0) {
+        read_model(&model, argc, argv);
+        plan_model(&model);
+    } else {
+        read_list(&list, argc, argv);
+        plan_list(&list);
+    }
     if (fflush(stdout) != 0 || ferror(stdout)) {
         fprintf(stderr, "planner: the answer cannot be written\n");
         return 2;

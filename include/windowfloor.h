@@ -20,35 +20,41 @@ extern "C" {
 #endif
 
 /* The version of this header and of the library: CHANGELOG.md says what came with it. */
-#define WINDOWFLOOR_VERSION "1.1.0"
+#define WINDOWFLOOR_VERSION "2.0.0"
 
 /* Limits: unsigned constants. */
 #define WINDOWFLOOR_LIMIT 1000000000u     /* the greatest capacity, parameter, scale and table entry */
 #define WINDOWFLOOR_FAMILIES 7u           /* families are 1 to 7 */
 #define WINDOWFLOOR_SWEEP_FAMILIES 5u     /* those without q, 1 to 5, can be swept */
 #define WINDOWFLOOR_MOST_ENTRIES 2048u    /* entries of a table; its capacity is one less */
-#define WINDOWFLOOR_MOST_SIZES 2048u      /* sizes of a job or of a sweep */
+#define WINDOWFLOOR_MOST_SIZES 2048u      /* sizes of a job or of a sweep, coefficients of all rows */
+#define WINDOWFLOOR_MOST_ROWS 64u         /* rows of a job of kind 3 */
 #define WINDOWFLOOR_MOST_STEPS 8u         /* steps of a job */
 #define WINDOWFLOOR_MOST_JOB_BYTES 65535u /* bytes of a job */
 #define WINDOWFLOOR_MOST_SPAN 4095u       /* high - low of a sweep */
 #define WINDOWFLOOR_JOB_IMAGES 2048u      /* least places of a job's image buffer, whatever the job */
 #define WINDOWFLOOR_JOB_WORKING 2048u     /* least places of a job's working buffer */
 #define WINDOWFLOOR_JOB_LIST 2047u        /* least places of a job's list buffer */
+#define WINDOWFLOOR_JOB_SCALES 64u        /* least places of a job's buffer for scales */
 
 /* The bytes of a job: fields of a tag, a two-byte length and a value. Tags 1, 2, 3 once each in this
- * order, then 0 to 8 steps. Numbers are unsigned, high byte first. */
+ * order, then 0 to 8 steps; in kind 3 tag 1, then 1 to 64 rows (tag 6), then the steps. Numbers are
+ * unsigned, high byte first. */
 enum {
     WINDOWFLOOR_TAG_KIND = 1,     /* length 1: one of the kinds below */
     WINDOWFLOOR_TAG_CAPACITY = 2, /* length 4 */
     WINDOWFLOOR_TAG_SIZES = 3,    /* length 4n, n up to 2,048: sizes, or the coefficients of a row */
     WINDOWFLOOR_TAG_FAMILY = 4,   /* length 9: a step: family byte, p, q */
     WINDOWFLOOR_TAG_TABLE = 5,    /* length 8 to 8,192, a multiple of 4: a step: its entries */
+    WINDOWFLOOR_TAG_ROW = 6,      /* length 4 or more, a multiple of 4: right side, coefficients */
 
     WINDOWFLOOR_KIND_FLOOR = 1,
-    WINDOWFLOOR_KIND_CUT = 2
+    WINDOWFLOOR_KIND_CUT = 2,
+    WINDOWFLOOR_KIND_ROWS = 3 /* a cut of each row of a model, by the same steps */
 };
 
-/* The numbers of refusal. windowfloor_refusal_text has the words; its "limit" is WINDOWFLOOR_LIMIT. */
+/* The numbers of refusal. windowfloor_refusal_text has the words; its "limit" is WINDOWFLOOR_LIMIT, and a
+ * row's "capacity" is its right side, its "sizes" are its coefficients. */
 enum {
     WINDOWFLOOR_ACCEPTED = 0,
     WINDOWFLOOR_BAD_CAPACITY = 1,
@@ -70,9 +76,10 @@ enum {
     WINDOWFLOOR_BAD_SIZE = 17, /* a row may have coefficients 0 */
     WINDOWFLOOR_OTHER_CAPACITY = 18,
     WINDOWFLOOR_BAD_RANGE = 19,
-    WINDOWFLOOR_NO_LEGAL_P = 20
+    WINDOWFLOOR_NO_LEGAL_P = 20,
+    WINDOWFLOOR_BAD_ROWS = 21 /* of kind 3: none, too many, or too many coefficients in all */
 };
-#define WINDOWFLOOR_LAST_REFUSAL 20u /* the greatest of them */
+#define WINDOWFLOOR_LAST_REFUSAL 21u /* the greatest of them */
 
 /* A number of refusal in words, for messages; defined for every number. */
 static inline const char *windowfloor_refusal_text(uint64_t number)
@@ -94,11 +101,12 @@ static inline const char *windowfloor_refusal_text(uint64_t number)
         "a field runs past the end of the job",
         "a tag is out of place or unknown, or the job ends before its sizes",
         "a field has a wrong length",
-        "the kind is neither 1 (floor) nor 2 (cut)",
+        "the kind is not 1 (floor), 2 (cut) or 3 (rows)",
         "a size is 0 in a list, or over the capacity",
         "a table step is of another capacity than the present one",
         "the range of p is empty or too wide",
-        "no p of the range is legal with a scale within the limit"
+        "no p of the range is legal with a scale within the limit",
+        "a job of rows has no row, too many rows, or too many coefficients"
     };
     return number < sizeof texts / sizeof *texts ? texts[number] : "unknown number of refusal";
 }
@@ -128,26 +136,31 @@ struct windowfloor_table_answer windowfloor_table_check(const uint32_t *table, s
                                                         uint64_t *working, size_t working_places,
                                                         uint32_t *list, size_t list_places);
 
-/* A job: the sizes taken through its steps, for a floor or a cut. The buffers have at least the
- * places named above.
- * Refusals, in order: 12, 7; for each field 13, 14, 15; then 16, 1, 17; then for each step 2, 3, 4 of
- * a family, or 8, 9, 10, 11, 18 of a table.
- * Accepted: the first n places of `images` hold the images. A refusal leaves `images` as it was.
- * `list` is written for 11 alone, as in the table check. Afterwards `working` may hold anything. */
+/* A job: the sizes taken through its steps, for a floor or a cut; in kind 3 each row's coefficients, for a
+ * cut of each row. The buffers have at least the places named above, whatever the kind.
+ * Refusals, in order: 12, 7; for each field 13, 14, 15; then 16, 21; then 1, 17; then for each step 2, 3, 4
+ * of a family, or 8, 9, 10, 11, 18 of a table. In kind 3 all from 1 on is asked of row 1, then of row 2,
+ * and so on.
+ * Accepted: the first n places of `images` hold the images, those of a row behind those of the row
+ * before. In kind 3 the first places of `scales`, one for each row, hold the right sides of the cuts. A
+ * refusal leaves `images` and `scales` as they were, and kinds 1 and 2 leave `scales`. `list` is written
+ * for 11 alone, as in the table check. Afterwards `working` may hold anything. */
 struct windowfloor_job_answer {
     uint64_t number;
-    uint64_t n;      /* the number of sizes */
-    uint64_t floor;  /* no assignment of the sizes uses fewer windows; 0 for a cut */
-    uint64_t sum;    /* the sum of the images; 0 for a cut */
-    uint64_t scale;  /* the right side of a cut whose coefficients are the images */
+    uint64_t n;      /* the number of sizes, or of the coefficients of all rows */
+    uint64_t floor;  /* no assignment of the sizes uses fewer windows; 0 for cuts */
+    uint64_t sum;    /* the sum of the images; 0 for cuts */
+    uint64_t scale;  /* the right side of a cut whose coefficients are the images; 0 in kind 3 */
     uint64_t step;   /* the place, 1 to 8, of the step that is refused */
     uint64_t length; /* at 11, the number of sizes in `list` */
+    uint64_t row;    /* in kind 3, the place, 1 to 64, of the row that is refused */
 };
 
 struct windowfloor_job_answer windowfloor_job(const uint8_t *job, size_t bytes,
                                               uint32_t *images, size_t images_places,
                                               uint64_t *working, size_t working_places,
-                                              uint32_t *list, size_t list_places);
+                                              uint32_t *list, size_t list_places,
+                                              uint32_t *scales, size_t scales_places);
 
 /* The largest floor that one step of a family (1 to 5) gives, over all p from low to high that are
  * legal with a scale within the limit, and the least p that gives it.

@@ -4,7 +4,7 @@
  *
  *     compare [SEED [ROUNDS]]
  *
- * A round is 12 images, 6 tables, 6 jobs and 3 sweeps. */
+ * A round is 12 images, 6 tables, 9 jobs and 3 sweeps. */
 #define _DEFAULT_SOURCE /* for MAP_ANONYMOUS */
 
 #include <stdio.h>
@@ -16,16 +16,28 @@
 #include "reference.h"
 
 enum { DEFAULT_SEED = 1, DEFAULT_ROUNDS = 50000 };
-enum operation { IMAGE, TABLE, JOB, SWEEP, OPERATIONS };
 enum { NUMBERS = WINDOWFLOOR_LAST_REFUSAL + 1, STEPS = WINDOWFLOOR_MOST_STEPS + 1 };
 
-static const char *const names[OPERATIONS] = {"image", "table check", "job", "sweep"};
+/* Jobs whose fourth byte is 3 are counted as rows; numbers that name a row are counted once more. */
+enum tally { IMAGE, TABLE, JOB, ROWS, SWEEP, OPERATIONS, ROW_1 = OPERATIONS, LATER_ROW, TALLIES };
 
-/* What was seen: how often each number came from each operation, and from how many steps a job got
- * through, or at which it was refused. */
-static unsigned long seen[OPERATIONS][NUMBERS];
-static unsigned long accepted_steps[STEPS];
-static unsigned long refused_step[STEPS];
+static const char *const names[TALLIES] = {
+    "image", "table check", "job", "job of rows", "sweep", "  in row 1", "  later row",
+};
+
+/* Accepted jobs: those of several rows by what the steps make of the right sides. */
+enum shape { FLOOR, CUT, ONE_ROW, NO_STEP, SAME_SCALES, OTHER_SCALES, MOST_ROWS, SHAPES };
+
+static const char *const shape_names[SHAPES] = {
+    "floor", "cut", "one row", "rows without steps", "with the same scale", "with several scales",
+    "64 rows",
+};
+
+/* What was seen: how often each number came from each operation, and from how many steps a job, or a job
+ * of rows, got through, or at which it was refused. */
+static unsigned long seen[TALLIES][NUMBERS];
+static unsigned long accepted_steps[2][STEPS], refused_step[2][STEPS];
+static unsigned long accepted_shapes[SHAPES];
 
 /* Inputs lie right before memory that cannot be read, so that a read past their end is a crash. */
 
@@ -132,7 +144,7 @@ static const char *fault_of(const void *library, const void *reference, size_t a
 }
 
 /* Counts the input if all is the same; else prints it and ends. */
-static void judge(enum operation operation, const void *library, const void *reference,
+static void judge(enum tally operation, const void *library, const void *reference,
                   size_t answer_bytes, int rest_same, const void *input, size_t input_bytes)
 {
     const char *fault = fault_of(library, reference, answer_bytes, rest_same);
@@ -179,26 +191,32 @@ static void compare_table(void)
           in.entries, bytes);
 }
 
-static int is_step(uint8_t tag)
+static int is_rows(const struct job_input *in)
 {
-    return tag == WINDOWFLOOR_TAG_FAMILY || tag == WINDOWFLOOR_TAG_TABLE;
+    return in->length > 3 && in->bytes[3] == WINDOWFLOOR_KIND_ROWS;
 }
 
-/* The steps of an accepted job. */
-static size_t steps_of(const struct job_input *in)
+/* How many fields of an accepted job have a tag from first to last. */
+static size_t fields_of(const struct job_input *in, uint8_t first, uint8_t last)
 {
-    size_t steps = 0;
+    size_t fields = 0;
     for (size_t at = 0; at < in->length;) {
-        steps += is_step(in->bytes[at]);
+        fields += in->bytes[at] >= first && in->bytes[at] <= last;
         at += 3 + (size_t)in->bytes[at + 1] * 256 + in->bytes[at + 2];
     }
-    return steps;
+    return fields;
 }
 
-static void count_steps(const struct job_input *in, const struct windowfloor_job_answer *answer)
+static size_t steps_of(const struct job_input *in)
 {
-    unsigned long *counts = answer->number == 0 ? accepted_steps : refused_step;
-    uint64_t steps = answer->number == 0 ? steps_of(in) : answer->step;
+    return fields_of(in, WINDOWFLOOR_TAG_FAMILY, WINDOWFLOOR_TAG_TABLE);
+}
+
+static void count_step(const struct job_input *in, const struct windowfloor_job_answer *answer)
+{
+    int accepted = answer->number == 0;
+    unsigned long *counts = accepted ? accepted_steps[is_rows(in)] : refused_step[is_rows(in)];
+    uint64_t steps = accepted ? steps_of(in) : answer->step;
     if (steps >= STEPS) {
         printf("job is accepted with too many steps, or refused at one past the last\n");
         print_bytes(in->bytes, in->length);
@@ -207,26 +225,59 @@ static void count_steps(const struct job_input *in, const struct windowfloor_job
     counts[steps]++;
 }
 
+static int all_same(const uint32_t *numbers, size_t n)
+{
+    for (size_t i = 1; i < n; i++)
+        if (numbers[i] != numbers[0])
+            return 0;
+    return 1;
+}
+
+static enum shape shape_of(const struct job_input *in, const uint32_t *scales, size_t rows)
+{
+    if (!is_rows(in))
+        return in->bytes[3] == WINDOWFLOOR_KIND_FLOOR ? FLOOR : CUT;
+    if (rows == 1)
+        return ONE_ROW;
+    if (steps_of(in) == 0)
+        return NO_STEP;
+    return all_same(scales, rows) ? SAME_SCALES : OTHER_SCALES;
+}
+
+static void count_shape(const struct job_input *in, const uint32_t *scales)
+{
+    size_t rows = fields_of(in, WINDOWFLOOR_TAG_ROW, WINDOWFLOOR_TAG_ROW);
+    accepted_shapes[shape_of(in, scales, rows)]++;
+    accepted_shapes[MOST_ROWS] += rows == WINDOWFLOOR_MOST_ROWS;
+}
+
 static void compare_job(const struct job_input *in)
 {
-    static struct lent images, working, list;
+    static struct lent images, working, list, scales;
     const uint8_t *job = at_edge(in->bytes, in->length);
     lend(&images, sizeof(uint32_t), in->images_places);
     lend(&working, sizeof(uint64_t), in->working_places);
     lend(&list, sizeof(uint32_t), in->list_places);
+    lend(&scales, sizeof(uint32_t), in->scales_places);
     struct windowfloor_job_answer library =
         windowfloor_job(job, in->length, library_places(&images), in->images_places,
                         library_places(&working), in->working_places,
-                        library_places(&list), in->list_places);
+                        library_places(&list), in->list_places,
+                        library_places(&scales), in->scales_places);
     struct windowfloor_job_answer reference =
         reference_job(job, in->length, reference_places(&images), in->images_places,
                       reference_places(&working), in->working_places,
-                      reference_places(&list), in->list_places);
-    judge(JOB, &library, &reference, sizeof library,
+                      reference_places(&list), in->list_places,
+                      reference_places(&scales), in->scales_places);
+    judge(is_rows(in) ? ROWS : JOB, &library, &reference, sizeof library,
           same_buffers(&images) && same_margins(&working) && same_buffers(&list)
-              && memcmp(job, in->bytes, in->length) == 0,
+              && same_buffers(&scales) && memcmp(job, in->bytes, in->length) == 0,
           in->bytes, in->length);
-    count_steps(in, &library);
+    count_step(in, &library);
+    if (library.number == 0)
+        count_shape(in, library_places(&scales));
+    if (library.row > 0)
+        seen[library.row == 1 ? ROW_1 : LATER_ROW][library.number]++;
 }
 
 static void compare_sweep(const struct sweep_input *in)
@@ -241,12 +292,28 @@ static void compare_sweep(const struct sweep_input *in)
           in, sizeof *in);
 }
 
-static void compare_lengths(size_t from, size_t to)
+static void compare_lengths(unsigned kind, size_t from, size_t to)
 {
     static struct job_input job;
-    for (unsigned tag = WINDOWFLOOR_TAG_KIND; tag <= WINDOWFLOOR_TAG_TABLE; tag++)
+    for (unsigned tag = WINDOWFLOOR_TAG_KIND; tag <= WINDOWFLOOR_TAG_ROW; tag++)
         for (size_t length = from; length <= to; length++) {
-            job_of_length(&job, tag, length);
+            job_of_length(&job, kind, tag, length);
+            compare_job(&job);
+        }
+}
+
+/* Rows about the most of rows and of coefficients, and as many as a job has bytes for; 21 comes behind the
+ * refusals of all fields. */
+static void compare_rows(void)
+{
+    static const size_t shapes[][2] = {{0, 0},   {1, 0},     {1, 2047}, {1, 2048}, {1, 2049}, {2, 1024},
+                                       {2, 1025}, {1, 16381}, {64, 0},   {64, 32},  {64, 33},  {65, 0},
+                                       {65, 1},   {256, 0},   {320, 0},  {9361, 0}};
+    static const unsigned faults[] = {0, 13, 14, 15};
+    static struct job_input job;
+    for (size_t i = 0; i < sizeof shapes / sizeof *shapes; i++)
+        for (size_t k = 0; k < sizeof faults / sizeof *faults; k++) {
+            job_of_rows(&job, shapes[i][0], shapes[i][1], faults[k]);
             compare_job(&job);
         }
 }
@@ -260,7 +327,11 @@ static void compare_largest(void)
         largest_job(&job, bytes);
         compare_job(&job);
     }
+    largest_rows(&job);
+    compare_job(&job);
     longest_chain(&job);
+    compare_job(&job);
+    longest_chain_of_rows(&job);
     compare_job(&job);
     for (uint8_t family = 1; family <= WINDOWFLOOR_SWEEP_FAMILIES; family++) {
         largest_sweep(&sweep, family);
@@ -276,7 +347,7 @@ static void compare_round(void)
         compare_image();
     for (int i = 0; i < 6; i++)
         compare_table();
-    for (int i = 0; i < 6; i++) {
+    for (int i = 0; i < 9; i++) {
         random_job(&job);
         compare_job(&job);
     }
@@ -286,32 +357,49 @@ static void compare_round(void)
     }
 }
 
-/* Coverage: the numbers that each operation has to have given. */
+/* Coverage: the numbers that each operation has to have given. In a later row there is no 2 and no 8 to
+ * 11: a step that has one of them, in whatever row, has it in row 1. */
 
-static const unsigned char due[OPERATIONS][NUMBERS] = {
+static const unsigned char due[TALLIES][NUMBERS] = {
     [IMAGE] = {[0] = 1, [1] = 1, [2] = 1, [3] = 1, [4] = 1, [5] = 1},
     [TABLE] = {[0] = 1, [6] = 1, [7] = 1, [8] = 1, [9] = 1, [10] = 1, [11] = 1},
     [JOB] = {[0] = 1, [1] = 1, [2] = 1, [3] = 1, [4] = 1, [7] = 1, [8] = 1, [9] = 1, [10] = 1,
              [11] = 1, [12] = 1, [13] = 1, [14] = 1, [15] = 1, [16] = 1, [17] = 1, [18] = 1},
+    [ROWS] = {[0] = 1, [1] = 1, [2] = 1, [3] = 1, [4] = 1, [7] = 1, [8] = 1, [9] = 1, [10] = 1,
+              [11] = 1, [12] = 1, [13] = 1, [14] = 1, [15] = 1, [17] = 1, [18] = 1, [21] = 1},
     [SWEEP] = {[0] = 1, [1] = 1, [2] = 1, [6] = 1, [17] = 1, [19] = 1, [20] = 1},
+    [ROW_1] = {[1] = 1, [2] = 1, [3] = 1, [4] = 1, [8] = 1, [9] = 1, [10] = 1, [11] = 1, [17] = 1,
+               [18] = 1},
+    [LATER_ROW] = {[1] = 1, [3] = 1, [4] = 1, [17] = 1, [18] = 1},
 };
 
-/* Prints the counts of one operation; answers its inputs. A quarter has to be accepted. */
-static unsigned long report(enum operation operation, int *lacking)
+/* Prints the counts of a tally; answers its inputs. */
+static unsigned long report(enum tally tally, int *lacking)
 {
     unsigned long inputs = 0;
-    printf("%-11s", names[operation]);
+    printf("%-11s", names[tally]);
     for (int number = 0; number < NUMBERS; number++) {
-        unsigned long count = seen[operation][number];
+        unsigned long count = seen[tally][number];
         inputs += count;
         if (count > 0)
             printf("  %d:%lu", number, count);
-        if (due[operation][number] && count == 0)
+        if (due[tally][number] && count == 0)
             *lacking = printf("  %d: MISSING", number);
     }
-    if (4 * seen[operation][0] < inputs)
-        *lacking = printf("  too few accepted");
     printf("\n");
+    return inputs;
+}
+
+/* Of each operation, a quarter has to be accepted. */
+static unsigned long report_operations(int *lacking)
+{
+    unsigned long inputs = 0;
+    for (enum tally operation = IMAGE; operation < OPERATIONS; operation++) {
+        unsigned long own = report(operation, lacking);
+        if (4 * seen[operation][0] < own)
+            *lacking = printf("%s: TOO FEW accepted\n", names[operation]);
+        inputs += own;
+    }
     return inputs;
 }
 
@@ -326,27 +414,51 @@ static void report_steps(const char *what, const unsigned long *counts, int *lac
     printf("\n");
 }
 
+static void report_shapes(int *lacking)
+{
+    printf("accepted jobs by shape");
+    for (int shape = 0; shape < SHAPES; shape++) {
+        printf("  %s:%lu", shape_names[shape], accepted_shapes[shape]);
+        if (accepted_shapes[shape] == 0)
+            *lacking = printf(" MISSING");
+    }
+    printf("\n");
+}
+
+static unsigned long report_all(int *lacking)
+{
+    printf("inputs by number of refusal (0: accepted)\n");
+    unsigned long inputs = report_operations(lacking);
+    printf("refused jobs of rows by number\n");
+    report(ROW_1, lacking);
+    report(LATER_ROW, lacking);
+    report_shapes(lacking);
+    report_steps("accepted jobs by steps  ", accepted_steps[0], lacking);
+    report_steps("  of rows               ", accepted_steps[1], lacking);
+    report_steps("refused jobs by step    ", refused_step[0], lacking);
+    report_steps("  of rows               ", refused_step[1], lacking);
+    return inputs;
+}
+
 int main(int argc, char **argv)
 {
     uint64_t seed = argc > 1 ? strtoull(argv[1], NULL, 0) : DEFAULT_SEED;
     unsigned long rounds = argc > 2 ? strtoul(argv[2], NULL, 0) : DEFAULT_ROUNDS;
-    unsigned long inputs = 0;
     int lacking = 0;
     printf("compare: seed %llu, %lu rounds\n", (unsigned long long)seed, rounds);
     fflush(stdout);
     seed_inputs(seed);
     make_edge();
     make_pattern();
-    compare_lengths(0, 20);
-    compare_lengths(8180, 8200); /* about the most of sizes and of a table */
+    for (unsigned kind = 0; kind < 5; kind++) {
+        compare_lengths(kind, 0, 20);
+        compare_lengths(kind, 8180, 8204); /* about the most of sizes, of a table and of a row */
+    }
+    compare_rows();
     compare_largest();
     for (unsigned long i = 0; i < rounds; i++)
         compare_round();
-    printf("inputs by number of refusal (0: accepted)\n");
-    for (enum operation operation = IMAGE; operation < OPERATIONS; operation++)
-        inputs += report(operation, &lacking);
-    report_steps("accepted jobs by steps  ", accepted_steps, &lacking);
-    report_steps("refused jobs by step    ", refused_step, &lacking);
+    unsigned long inputs = report_all(&lacking);
     printf("compare: %lu inputs, all the same%s\n", inputs, lacking ? ", but too narrow" : "");
     return lacking ? 1 : 0;
 }

@@ -275,20 +275,43 @@ static void put_header(struct job_input *in, unsigned tag, size_t length)
     put_byte(in, length);
 }
 
-static void put_head(struct job_input *in, unsigned kind, uint64_t capacity, size_t n)
+static void start_job(struct job_input *in)
 {
-    in->length = in->fields = 0;
-    put_header(in, 1, 1);
-    put_byte(in, kind);
-    put_header(in, 2, 4);
-    put_number(in, capacity);
-    put_header(in, 3, 4 * n);
+    in->length = in->fields = in->first_list = in->lists = 0;
 }
 
-static void put_sizes(struct job_input *in, unsigned kind, uint64_t capacity, size_t n)
+static void put_kind(struct job_input *in, unsigned kind)
+{
+    start_job(in);
+    put_header(in, 1, 1);
+    put_byte(in, kind);
+}
+
+static void put_sizes(struct job_input *in, uint64_t capacity, size_t n, uint64_t least)
 {
     for (size_t i = 0; i < n; i++)
-        put_number(in, random_size(capacity, kind == 1));
+        put_number(in, random_size(capacity, least));
+}
+
+/* A job of kind 1 or 2, up to its sizes. */
+static void put_list(struct job_input *in, unsigned kind, uint64_t capacity, size_t n)
+{
+    put_kind(in, kind);
+    put_header(in, 2, 4);
+    put_number(in, capacity);
+    in->first_list = in->fields;
+    in->lists = 1;
+    put_header(in, 3, 4 * n);
+    put_sizes(in, capacity, n, kind == 1);
+}
+
+static void put_row(struct job_input *in, uint64_t right_side, size_t n)
+{
+    if (in->lists++ == 0)
+        in->first_list = in->fields;
+    put_header(in, 6, 4 + 4 * n);
+    put_number(in, right_side);
+    put_sizes(in, right_side, n, 0);
 }
 
 static void put_family(struct job_input *in, struct family_step s)
@@ -334,8 +357,11 @@ static uint64_t put_random_step(struct job_input *in, uint64_t present)
     return put_random_family(in, present);
 }
 
-static size_t random_steps(void)
+/* Few for half of the jobs of several rows, so that rows go through with scales of their own. */
+static size_t random_steps(size_t lists)
 {
+    if (lists > 1 && below(2))
+        return 1 + below(2);
     return one_in(30) ? 9 : below(9);
 }
 
@@ -344,6 +370,57 @@ static size_t random_count(void)
     if (one_in(400))
         return 2048 - below(2);
     return below(one_in(20) ? 300 : 12);
+}
+
+/* Rows */
+
+static size_t random_rows(void)
+{
+    if (one_in(25))
+        return one_in(4) ? 0 : 63 + below(4);
+    return 1 + below(one_in(8) ? 12 : 4);
+}
+
+/* Mostly no less than the first: what is legal there is mostly legal here. */
+static uint64_t other_right_side(uint64_t first)
+{
+    if (one_in(8))
+        return 1 + below(first);
+    return lesser(first + below(first / 4 + 3), LIMIT);
+}
+
+/* Coefficients of the next row, where so many are left for so many rows: often none. */
+static size_t random_share(size_t left, size_t rows)
+{
+    return rows == 1 ? left : lesser(left, below(2 * left / rows + 1));
+}
+
+/* The first row has this right side; the others too, or each its own. */
+static void put_random_rows(struct job_input *in, uint64_t first)
+{
+    size_t left = one_in(60) ? 2047 + below(3) : random_count();
+    int same = one_in(3);
+    put_kind(in, 3);
+    for (size_t rows = random_rows(); rows > 0; rows--) {
+        size_t n = random_share(left, rows);
+        put_row(in, same || in->lists == 0 ? first : other_right_side(first), n);
+        left -= n;
+    }
+}
+
+/* A step whose scale is the same at every capacity: tables behind it can be in place in all rows. */
+static uint64_t put_levelling_step(struct job_input *in, uint64_t present)
+{
+    struct family_step s = {4, 2 + below(lesser(present - 1, 20)), 0};
+    put_family(in, s);
+    return 2 * (s.p - 1);
+}
+
+static uint64_t put_first_step(struct job_input *in, uint64_t present)
+{
+    if (in->lists > 1 && present > 1 && one_in(3))
+        return put_levelling_step(in, present);
+    return put_random_step(in, present);
 }
 
 /* Where a field ends that starts at place k of the fields. */
@@ -381,11 +458,23 @@ static void pad_to(struct job_input *in, size_t length)
         put_byte(in, below(256));
 }
 
-static void spoil_size(struct job_input *in)
+static uint64_t read_number(const struct job_input *in, size_t at)
 {
-    size_t n = (field_end(in, 2) - 14) / 4;
+    const uint8_t *b = in->bytes + at;
+    return (uint64_t)b[0] << 24 | (uint64_t)b[1] << 16 | (uint64_t)b[2] << 8 | b[3];
+}
+
+/* A number of the list or of a row, where it may be the right side, becomes 0 or too large. */
+static void spoil_list(struct job_input *in)
+{
+    if (in->lists == 0)
+        return;
+    size_t k = in->first_list + below(in->lists);
+    size_t start = in->field_at[k] + 3, n = (field_end(in, k) - start) / 4;
+    size_t capacity_at = in->bytes[3] == 3 ? start : 7;
+    uint64_t over = 1 + (one_in(2) ? LIMIT + below(3 * LIMIT) : read_number(in, capacity_at));
     if (n > 0)
-        write_number(in, 14 + 4 * below(n), one_in(2) ? 0 : LIMIT + 1 + below(3 * LIMIT));
+        write_number(in, start + 4 * below(n), one_in(3) ? 0 : over);
 }
 
 /* Damage to whole fields: cut, left out, twice, or more behind the last. */
@@ -411,15 +500,15 @@ static void damage_values(struct job_input *in)
     case 1: in->bytes[any] = (uint8_t)below(256); break;
     case 2: in->bytes[header] += (uint8_t)(below(2) ? 1 : 255); break;
     case 3: in->bytes[header] = (uint8_t)below(256); break;
-    case 4: in->bytes[3] = (uint8_t)below(256); break;
-    case 5: write_number(in, 7, illegal_capacity()); break;
-    default: spoil_size(in); break;
+    case 4: in->bytes[3] = (uint8_t)below(below(2) ? 256 : 4); break;
+    case 5: write_number(in, 7, illegal_capacity()); break; /* the capacity, or row 1's right side */
+    default: spoil_list(in); break;
     }
 }
 
 static void any_bytes(struct job_input *in)
 {
-    in->length = in->fields = 0;
+    start_job(in);
     pad_to(in, below(40));
 }
 
@@ -428,17 +517,19 @@ static void lend_places(struct job_input *in, uint64_t too_short)
     in->images_places = some_places(WINDOWFLOOR_JOB_IMAGES, too_short);
     in->working_places = some_places(WINDOWFLOOR_JOB_WORKING, too_short);
     in->list_places = some_places(WINDOWFLOOR_JOB_LIST, too_short);
+    in->scales_places = some_places(WINDOWFLOOR_JOB_SCALES, too_short);
 }
 
 void random_job(struct job_input *in)
 {
-    unsigned kind = 1 + (unsigned)below(2);
+    unsigned kind = 1 + (unsigned)below(3);
     uint64_t present = below(2) ? legal_capacity() : 1 + below(40);
-    size_t n = random_count();
-    put_head(in, kind, present, n);
-    put_sizes(in, kind, present, n);
-    for (size_t steps = random_steps(); steps > 0; steps--)
-        present = put_random_step(in, present);
+    if (kind == 3)
+        put_random_rows(in, present);
+    else
+        put_list(in, kind, present, random_count());
+    for (size_t steps = random_steps(in->lists), i = 0; i < steps; i++)
+        present = i == 0 ? put_first_step(in, present) : put_random_step(in, present);
     if (one_in(5))
         for (uint64_t times = 1 + below(3); times > 0; times--)
             damage_values(in);
@@ -449,21 +540,39 @@ void random_job(struct job_input *in)
     lend_places(in, 100);
 }
 
-static void put_ones(struct job_input *in, unsigned tag, size_t length)
+/* A field whose value is this byte, so many times. */
+static void put_filled(struct job_input *in, unsigned tag, unsigned byte, size_t length)
 {
     put_header(in, tag, length);
     while (length-- > 0)
-        put_byte(in, 1);
+        put_byte(in, byte);
 }
 
-void job_of_length(struct job_input *in, unsigned tag, size_t length)
+void job_of_length(struct job_input *in, unsigned kind, unsigned tag, size_t length)
 {
-    in->length = in->fields = 0;
-    put_ones(in, 1, tag == 1 ? length : 1);
-    put_ones(in, 2, tag == 2 ? length : 4);
-    put_ones(in, 3, tag == 3 ? length : 8);
-    if (tag > 3)
-        put_ones(in, tag, length);
+    static const size_t usual[] = {[1] = 1, [2] = 4, [3] = 8, [6] = 8};
+    static const unsigned list_head[] = {1, 2, 3, 0}, rows_head[] = {1, 6, 0};
+    int in_head = 0;
+    start_job(in);
+    for (const unsigned *at = kind == 3 ? rows_head : list_head; *at != 0; at++) {
+        put_filled(in, *at, *at == 1 ? kind : 1, *at == tag ? length : usual[*at]);
+        in_head |= *at == tag;
+    }
+    if (!in_head)
+        put_filled(in, tag, 1, length);
+    lend_places(in, 1000000);
+}
+
+void job_of_rows(struct job_input *in, size_t rows, size_t n, unsigned fault)
+{
+    put_kind(in, 3);
+    while (rows-- > 0)
+        put_row(in, 1 + below(1000), n);
+    switch (fault) {
+    case 13: put_byte(in, 4); break;
+    case 14: put_filled(in, 2, 1, 4); break;
+    case 15: put_filled(in, 4, 1, 8); break;
+    }
     lend_places(in, 1000000);
 }
 
@@ -477,25 +586,51 @@ static void put_largest_table(struct job_input *in)
     put_table(in, entries, 2048);
 }
 
+static void put_largest_tables(struct job_input *in)
+{
+    for (int tables = 7; tables > 0; tables--)
+        put_largest_table(in);
+}
+
 void largest_job(struct job_input *in, size_t bytes)
 {
-    size_t tables = 7, n = (bytes - 14 - tables * (3 + 8192)) / 4;
-    put_head(in, 1, 2047, n);
-    put_sizes(in, 1, 2047, n);
-    while (tables-- > 0)
-        put_largest_table(in);
+    put_list(in, 1, 2047, (bytes - 14 - 7 * (3 + 8192)) / 4);
+    put_largest_tables(in);
     pad_to(in, bytes);
     lend_places(in, 1000000);
 }
 
-void longest_chain(struct job_input *in)
+void largest_rows(struct job_input *in)
+{
+    put_kind(in, 3);
+    for (size_t row = 0; row < 64; row++)
+        put_row(in, 2047, row == 0 ? 39 : 30);
+    put_largest_tables(in);
+    lend_places(in, 1000000);
+}
+
+static void put_longest_chain(struct job_input *in)
 {
     static const struct family_step steps[] = {{1, 100000, 0}, {5, 700, 0}, {2, 3, 0}, {3, 1000, 0},
                                                {4, 100, 0},    {2, 50, 0},  {6, 7, 3}, {7, 5, 2}};
-    put_head(in, 1, 1000000, 2048);
-    put_sizes(in, 1, 1000000, 2048);
     for (size_t i = 0; i < sizeof steps / sizeof *steps; i++)
         put_family(in, steps[i]);
+}
+
+void longest_chain(struct job_input *in)
+{
+    put_list(in, 1, 1000000, 2048);
+    put_longest_chain(in);
+    lend_places(in, 1000000);
+}
+
+/* Right sides with the same remainder by 700, so that family 5 leaves all of them enough. */
+void longest_chain_of_rows(struct job_input *in)
+{
+    put_kind(in, 3);
+    for (size_t row = 0; row < 64; row++)
+        put_row(in, 1000000 - 700 * row, 32);
+    put_longest_chain(in);
     lend_places(in, 1000000);
 }
 

@@ -8,7 +8,7 @@ enum {
     ROOM_ENTRIES = WINDOWFLOOR_MOST_ENTRIES + 32,
     ROOM_SIZES = WINDOWFLOOR_MOST_SIZES + 32,
     ROOM_BYTES = 2 * 65536,
-    ROOM_FIELDS = 16
+    ROOM_FIELDS = ROOM_BYTES / 3
 };
 
 struct image_input {
@@ -23,8 +23,9 @@ struct table_input {
 
 struct job_input {
     uint8_t bytes[ROOM_BYTES];
-    size_t length, images_places, working_places, list_places;
+    size_t length, images_places, working_places, list_places, scales_places;
     size_t field_at[ROOM_FIELDS], fields; /* where each field starts, before any damage */
+    size_t first_list, lists;             /* which of them is the list of sizes, or which are rows */
 };
 
 struct sweep_input {
@@ -43,12 +44,18 @@ void random_table(struct table_input *in);
 void random_job(struct job_input *in);
 void random_sweep(struct sweep_input *in);
 
-/* A job with a field of this tag whose value has this length. */
-void job_of_length(struct job_input *in, unsigned tag, size_t length);
+/* A job of the kind, with a field of this tag whose value has this length. */
+void job_of_length(struct job_input *in, unsigned kind, unsigned tag, size_t length);
 
-/* Inputs as large as they get. */
+/* Rows of n coefficients each, without steps. Behind them a field that is refused with the number 13, 14
+ * or 15, or none for 0. */
+void job_of_rows(struct job_input *in, size_t rows, size_t n, unsigned fault);
+
+/* Inputs as large as they get; those of rows have 64 of them. */
 void largest_job(struct job_input *in, size_t bytes); /* seven tables of 2,048 entries */
-void longest_chain(struct job_input *in);             /* 2,048 sizes, eight family steps */
+void largest_rows(struct job_input *in);
+void longest_chain(struct job_input *in); /* 2,048 sizes, eight family steps */
+void longest_chain_of_rows(struct job_input *in);
 void largest_sweep(struct sweep_input *in, uint8_t family);
 
 #endif

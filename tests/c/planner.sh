@@ -1,5 +1,5 @@
 #!/usr/bin/env bash
-# Runs the example on a few lists and holds what it prints to planner.out beside this file, which is
+# Runs the example on a few lists and models of rows, and holds what it prints to planner.out beside this file, which is
 # compared with the independent implementation by tests/reference/planner_cases.py.
 #
 #     planner.sh PROGRAM            compare
@@ -15,15 +15,28 @@ run() {
     "$program" "$@" 2>&1 || echo "exit $?"
 }
 
-# The name of a file in a folder that is left out of what is printed.
-run_file() {
-    run "$1/$2" | sed "s,$1/,,"
+# A folder that is left out of what is printed, and arguments.
+run_in() {
+    run "${@:2}" | sed "s,$1/,,"
+}
+
+run_file() { # FOLDER NAME
+    run_in "$1" "$1/$2"
+}
+
+run_rows() { # FOLDER NAME, and numbers of steps
+    run_in "$1" --rows "$1/$2" "${@:3}"
 }
 
 # A file of this name, with this text: \n and the like as for printf.
 run_text() {
     printf "$2" >"$lists/$1"
     run_file "$lists" "$1"
+}
+
+run_rows_text() { # NAME TEXT, and numbers of steps
+    printf "$2" >"$lists/$1"
+    run_rows "$lists" "$1" "${@:3}"
 }
 
 repeat() {
@@ -96,12 +109,49 @@ run_wrong_files() {
     run_file "$lists" folder
 }
 
+run_models() {
+    run_rows "$here" planner_rows.txt
+    run_rows "$here" planner_rows.txt 1 3 0 3 3 0
+    run_rows "$here" planner_rows.txt 4 4 0 1 2 0 2 3 0 3 2 0 5 4 0 6 3 2 7 5 2 1 9 0
+    run_rows_text no_coefficients.txt '\n10\n \n20 7\n30' 2 1 0
+}
+
+run_refused_models() {
+    run_rows "$here" planner_rows.txt 8 0 0
+    run_rows "$here" planner_rows.txt 7 4 1
+    run_rows "$here" planner_rows.txt 1 3 0 1 5 0
+    run_rows "$here" planner_rows.txt 2 100000000 0
+    run_rows_text no_rows.txt '\n' 1 3 0
+    run_rows_text zero.txt '10 5\n0 5\n' 1 3 0
+    run_rows_text over.txt '10 5\n4 4\n\n6 5 7\n'
+    run_rows_text most_rows.txt "$(repeat "31 $(repeat '7 ' 31)8"'\\n' 63)7 $(repeat '7 ' 31)8\n"
+}
+
+run_wrong_models() {
+    run --rows
+    run_rows "$here" planner_rows.txt 1
+    run_rows "$here" planner_rows.txt 1 3
+    run_rows "$here" planner_rows.txt $(repeat '1 3 0 ' 9)
+    run_rows "$here" planner_rows.txt 1 x 0
+    run_rows "$here" planner_rows.txt 256 3 0
+    run_rows "$here" planner_rows.txt 1 3 0 2 4294967296 0
+    run_rows_text row_letter.txt '10 7\n10 x\n'
+    run_rows_text row_bits.txt '10 7\n\n4294967296 7\n'
+    run_rows_text coefficient_bits.txt '10 7\n10 4294967296\n'
+    run_rows_text too_many_rows.txt "$(repeat '10\\n' 64)11\n"
+    run_rows_text too_many_coefficients.txt "10 $(repeat '7 ' 2048)\n10 8\n"
+    run_rows "$lists" missing.txt
+}
+
 run_all() {
     run_lists
     run_refused
     run_wrong_arguments
     run_files
     run_wrong_files
+    run_models
+    run_refused_models
+    run_wrong_models
 }
 
 if [ "${2-}" = --print ]; then

@@ -246,13 +246,23 @@ struct windowfloor_table_answer reference_table_check(const uint32_t *table, siz
  * sees a wrong tag or length before it knows whether the value is all there: so it remembers the fault
  * and tells it behind the value's last byte. If the job ends before that byte, 13 is told instead. */
 
-enum { MOST_STEPS = 8, MOST_FIELDS = 3 + MOST_STEPS, MOST_BYTES = 65535, TAGS = 256 };
+enum { MOST_STEPS = 8, MOST_BYTES = 65535, MOST_FIELDS = MOST_BYTES / 3, TAGS = 256 };
+enum { MOST_ROWS = 64, MOST_COEFFICIENTS = 2048 };
 
 /* The part of a field that the next byte belongs to. */
 enum part { TAG, LENGTH_HIGH, LENGTH_LOW, VALUE };
 
 /* What has been read when a field starts. */
-enum place { OUT_OF_PLACE, AT_START, BEHIND_KIND, BEHIND_CAPACITY, BEHIND_SIZES, BEHIND_STEP, PLACES };
+enum place {
+    OUT_OF_PLACE,
+    AT_START,
+    BEHIND_KIND, /* any but 3 */
+    BEHIND_CAPACITY,
+    BEHIND_SIZES,
+    AMONG_ROWS, /* behind the kind 3, or behind a row */
+    BEHIND_STEP,
+    PLACES
+};
 
 /* Which tags may come at a place, and the place behind each. */
 static const uint8_t place_behind[PLACES][TAGS] = {
@@ -260,10 +270,11 @@ static const uint8_t place_behind[PLACES][TAGS] = {
     [BEHIND_KIND] = {[2] = BEHIND_CAPACITY},
     [BEHIND_CAPACITY] = {[3] = BEHIND_SIZES},
     [BEHIND_SIZES] = {[4] = BEHIND_STEP, [5] = BEHIND_STEP},
+    [AMONG_ROWS] = {[4] = BEHIND_STEP, [5] = BEHIND_STEP, [6] = AMONG_ROWS},
     [BEHIND_STEP] = {[4] = BEHIND_STEP, [5] = BEHIND_STEP},
 };
 
-static const uint8_t may_end[PLACES] = {[BEHIND_SIZES] = 1, [BEHIND_STEP] = 1};
+static const uint8_t may_end[PLACES] = {[BEHIND_SIZES] = 1, [AMONG_ROWS] = 1, [BEHIND_STEP] = 1};
 
 /* A tag's lengths, and how many bytes the first number of its value has, and each of the others. */
 static const struct layout {
@@ -274,6 +285,7 @@ static const struct layout {
     [3] = {0, 4 * 2048, 4, 4, 4},
     [4] = {9, 9, 9, 1, 4},
     [5] = {8, 4 * 2048, 4, 4, 4},
+    [6] = {4, MOST_BYTES, 4, 4, 4},
 };
 
 struct field {
@@ -322,6 +334,16 @@ static void start_value(struct machine *m, struct fields *fields)
     m->number = 0;
 }
 
+static void end_number(struct machine *m, struct fields *fields)
+{
+    fields->numbers[fields->numbers_kept++] = m->number;
+    fields->at[fields->count - 1].count++;
+    if (m->place == BEHIND_KIND && m->number == 3)
+        m->place = AMONG_ROWS;
+    m->lacking = layouts[m->tag].other;
+    m->number = 0;
+}
+
 static void take_value(struct machine *m, uint8_t byte, struct fields *fields)
 {
     m->left--;
@@ -329,12 +351,8 @@ static void take_value(struct machine *m, uint8_t byte, struct fields *fields)
         return;
     m->number = m->number * 256 + byte;
     m->lacking--;
-    if (m->lacking > 0)
-        return;
-    fields->numbers[fields->numbers_kept++] = m->number;
-    fields->at[fields->count - 1].count++;
-    m->lacking = layouts[m->tag].other;
-    m->number = 0;
+    if (m->lacking == 0)
+        end_number(m, fields);
 }
 
 static void take_byte(struct machine *m, uint8_t byte, struct fields *fields)
@@ -421,8 +439,6 @@ static uint64_t table_step(struct field f, struct chain *chain, uint32_t *list, 
 
 static uint64_t list_refusal(unsigned kind, const struct chain *chain)
 {
-    if (kind != 1 && kind != 2)
-        return 16;
     if (capacity_refused(chain->scale))
         return 1;
     for (size_t i = 0; i < chain->n; i++)
@@ -433,12 +449,11 @@ static uint64_t list_refusal(unsigned kind, const struct chain *chain)
 
 /* Job */
 
-static void start_chain(const struct fields *fields, struct chain *chain)
+static void start_chain(struct chain *chain, uint32_t capacity, const uint32_t *sizes, size_t n)
 {
-    struct field sizes = field_of(fields, 3);
-    chain->scale = field_of(fields, 2).numbers[0];
-    chain->n = sizes.count;
-    memcpy(chain->images, sizes.numbers, sizes.count * sizeof *sizes.numbers);
+    chain->scale = capacity;
+    chain->n = n;
+    memcpy(chain->images, sizes, n * sizeof *sizes);
 }
 
 /* A refusal's number, step and length go into the answer. */
@@ -457,8 +472,18 @@ static void run_steps(const struct fields *fields, struct chain *chain, uint32_t
     answer->step = answer->number == 0 ? 0 : step;
 }
 
-static void accept(unsigned kind, const struct chain *chain, uint32_t *images,
-                   struct windowfloor_job_answer *answer)
+static void run_chain(unsigned kind, const struct fields *fields, struct chain *chain, uint32_t *list,
+                      struct windowfloor_job_answer *answer)
+{
+    answer->number = list_refusal(kind, chain);
+    if (answer->number == 0)
+        run_steps(fields, chain, list, answer);
+}
+
+/* Kinds 1 and 2 */
+
+static void accept_list(unsigned kind, const struct chain *chain, uint32_t *images,
+                        struct windowfloor_job_answer *answer)
 {
     answer->n = chain->n;
     answer->scale = chain->scale;
@@ -470,31 +495,103 @@ static void accept(unsigned kind, const struct chain *chain, uint32_t *images,
     answer->floor = (uint64_t)up(answer->sum, answer->scale);
 }
 
+static void run_list(unsigned kind, const struct fields *fields, uint32_t *images, uint32_t *list,
+                     struct windowfloor_job_answer *answer)
+{
+    static struct chain chain;
+    struct field sizes = field_of(fields, 3);
+    if (kind != 1 && kind != 2) {
+        answer->number = 16;
+        return;
+    }
+    start_chain(&chain, field_of(fields, 2).numbers[0], sizes.numbers, sizes.count);
+    run_chain(kind, fields, &chain, list, answer);
+    if (answer->number == 0)
+        accept_list(kind, &chain, images, answer);
+}
+
+/* Kind 3: a row is a right side and its coefficients. Rows are kept until the last is accepted. */
+
+struct model {
+    size_t rows, n;
+    uint32_t scales[MOST_ROWS], images[MOST_COEFFICIENTS];
+};
+
+static uint64_t rows_refusal(const struct fields *fields)
+{
+    size_t rows = 0, coefficients = 0;
+    for (size_t i = 0; i < fields->count; i++) {
+        if (fields->at[i].tag != 6)
+            continue;
+        rows++;
+        coefficients += fields->at[i].count - 1;
+    }
+    return rows < 1 || rows > MOST_ROWS || coefficients > MOST_COEFFICIENTS ? 21 : 0;
+}
+
+static void keep_row(struct model *model, const struct chain *chain)
+{
+    memcpy(model->images + model->n, chain->images, chain->n * sizeof *chain->images);
+    model->n += chain->n;
+    model->scales[model->rows++] = (uint32_t)chain->scale;
+}
+
+static void run_row(struct field row, const struct fields *fields, struct model *model, uint32_t *list,
+                    struct windowfloor_job_answer *answer)
+{
+    static struct chain chain;
+    start_chain(&chain, row.numbers[0], row.numbers + 1, row.count - 1);
+    run_chain(3, fields, &chain, list, answer);
+    if (answer->number == 0)
+        keep_row(model, &chain);
+    else
+        answer->row = model->rows + 1;
+}
+
+static void accept_rows(const struct model *model, uint32_t *images, uint32_t *scales,
+                        struct windowfloor_job_answer *answer)
+{
+    answer->n = model->n;
+    memcpy(images, model->images, model->n * sizeof *images);
+    memcpy(scales, model->scales, model->rows * sizeof *scales);
+}
+
+static void run_rows(const struct fields *fields, uint32_t *images, uint32_t *list, uint32_t *scales,
+                     struct windowfloor_job_answer *answer)
+{
+    static struct model model;
+    model.rows = model.n = 0;
+    answer->number = rows_refusal(fields);
+    for (size_t i = 0; i < fields->count && answer->number == 0; i++)
+        if (fields->at[i].tag == 6)
+            run_row(fields->at[i], fields, &model, list, answer);
+    if (answer->number == 0)
+        accept_rows(&model, images, scales, answer);
+}
+
 struct windowfloor_job_answer reference_job(const uint8_t *job, size_t bytes,
                                             uint32_t *images, size_t images_places,
                                             uint64_t *working, size_t working_places,
-                                            uint32_t *list, size_t list_places)
+                                            uint32_t *list, size_t list_places,
+                                            uint32_t *scales, size_t scales_places)
 {
-    static struct chain chain;
     static struct fields fields;
     struct windowfloor_job_answer answer;
     memset(&answer, 0, sizeof answer);
     (void)working;
     if (bytes > MOST_BYTES)
         answer.number = 12;
-    else if (images_places < 2048 || working_places < 2048 || list_places < 2047)
+    else if (images_places < 2048 || working_places < 2048 || list_places < 2047 || scales_places < 64)
         answer.number = 7;
     else
         answer.number = read_fields(job, bytes, &fields);
     if (answer.number != 0)
         return answer;
     unsigned kind = field_of(&fields, 1).numbers[0];
-    start_chain(&fields, &chain);
-    answer.number = list_refusal(kind, &chain);
-    if (answer.number == 0)
-        run_steps(&fields, &chain, list, &answer);
-    if (answer.number == 0)
-        accept(kind, &chain, images, &answer);
+    if (kind == 3)
+        run_rows(&fields, images, list, scales, &answer);
+    else
+        run_list(kind, &fields, images, list, &answer);
     return answer;
 }
 

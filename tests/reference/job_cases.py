@@ -1,13 +1,16 @@
-"""Writes crates/job_cases/stdin (job cases: i w l b k and k runs) and
-crates/job_cases/stdout (their answers: the seven numbers, a checksum of the
-image buffer and of the list buffer). With --check it writes nothing and fails
-if a stored file differs.
+"""Writes crates/job_cases/stdin (job cases: i w l s b k and k runs) and
+crates/job_cases/stdout (their answers: the eight numbers, a checksum of the
+image buffer, of the list buffer and of the buffer of scales). With --check it
+writes nothing and fails if a stored file differs.
 
-The image, working and list buffers have i, w and l places. The job has b
-bytes: those of the runs (count, byte) in turn, and 0 behind them. Before the
-call place j of the image buffer holds 800,000 + j, of the working buffer
-7,000,000,000 + j and of the list buffer 900,000 + j. No case lies in two
-blocks of 65,536 bytes: empty lines fill up a block."""
+The image, working and list buffers and that of scales have i, w, l and s
+places. The job has b bytes: those of the runs (count, byte) in turn, and 0
+behind them. Before the call place j of the image buffer holds 800,000 + j, of
+the working buffer 7,000,000,000 + j, of the list buffer 900,000 + j and of the
+scales 700,000 + j. No case lies in two blocks of 65,536 bytes: empty lines fill
+up a block.
+
+Here are the cases of kinds 1 and 2; row_cases.py has those of kind 3."""
 
 import itertools
 import random
@@ -16,49 +19,16 @@ import sys
 sys.dont_write_bytecode = True
 import windowfloor as wf
 from case_files import store_or_check
+from job_bytes import (
+    BAD_STEPS, changed_value, cut_short, damaged, family, field, head, job, last_only, make, other_lengths,
+    other_tags, random_steps, table)
+from row_cases import row_cases
 from table_cases import FAMILY_STEPS, LIMIT, MAX, MOST_PLACES, checksum
 
 RANDOM = 600  # valid jobs, and as many damaged ones of each kind
 MOST_BYTES = 65_536
 BLOCK, MOST_BLOCKS = 65_536, 32
 SIZES, ENTRIES = 2048, 2048  # the most of one job and of one table
-
-
-# Jobs
-
-def word(number):
-    return number.to_bytes(4, "big")
-
-
-def field(tag, value, length=None):
-    """A field; its header may say another length."""
-    length = len(value) if length is None else length
-    return bytes([tag]) + length.to_bytes(2, "big") + value
-
-
-def words(numbers):
-    return b"".join(map(word, numbers))
-
-
-def family(number, p, q=0):
-    return field(4, bytes([number]) + word(p) + word(q))
-
-
-def table(*entries):
-    return field(5, words(entries))
-
-
-def head(kind, capacity, sizes):
-    return [field(1, bytes([kind])), field(2, word(capacity)), field(3, words(sizes))]
-
-
-def job(kind, capacity, sizes, *steps):
-    return b"".join(head(kind, capacity, sizes) + list(steps))
-
-
-def last_only(n, last):
-    """A table of n entries, all 0 but the last."""
-    return table(*[0] * (n - 1), last)
 
 
 def good_fields(kind):
@@ -68,12 +38,6 @@ def good_fields(kind):
 
 
 # Cases
-
-def make(data, images=SIZES, working=ENTRIES, listed=ENTRIES - 1):
-    """A case of a job and the places of its buffers."""
-    runs = [(len(list(group)), byte) for byte, group in itertools.groupby(data)]
-    return (images, working, listed, len(data), len(runs)) + sum(runs, ())
-
 
 def reckoned():
     """The jobs of 01: the hand-over program and Checked by reckoning."""
@@ -87,21 +51,17 @@ def form():
     """Runs that do not fill the job, and runs behind its end."""
     data = job(2, 10, (0, 0))
     case = make(data)
-    yield case[:3] + (len(data) - 1,) + case[4:]
-    yield case[:3] + (len(data) + 12,) + case[4:]
-    yield case[:3] + (len(data), 0)
-    yield case[:3] + (len(data), 1, 99, 4)
+    yield case[:4] + (len(data) - 1,) + case[5:]
+    yield case[:4] + (len(data) + 12,) + case[5:]
+    yield case[:4] + (len(data), 0)
+    yield case[:4] + (len(data), 1, 99, 4)
 
 
 def truncated():
     """Good jobs cut at every byte."""
     for kind in (1, 2):
-        data = b"".join(good_fields(kind))
-        for end in range(len(data) + 1):
-            yield make(data[:end])
-    data = job(2, 10, (1, 0, 2), table(*range(11)))
-    for end in range(len(data)):
-        yield make(data[:end])
+        yield from map(make, cut_short(b"".join(good_fields(kind))))
+    yield from map(make, cut_short(job(2, 10, (1, 0, 2), table(*range(11)))))
 
 
 def tag_orders():
@@ -110,27 +70,12 @@ def tag_orders():
     for count in range(1, 5):
         for chosen in itertools.product(fields, repeat=count):
             yield make(b"".join(chosen))
-    good = good_fields(1)
-    for place in range(len(good)):
-        for tag in (0, 1, 2, 3, 4, 5, 6, 7, 128, 255):
-            changed = bytes([tag]) + good[place][1:]
-            yield make(b"".join(good[:place] + [changed] + good[place + 1:]))
-        yield make(b"".join(good[:place] + good[place + 1:]))
-        yield make(b"".join(good[:place] + [good[place]] + good[place:]))
+    yield from map(make, other_tags(good_fields(1)))
 
 
 def lengths():
-    """Wrong lengths: of a value and its header, and of the header alone."""
-    good = good_fields(1)
-    for place, part in enumerate(good):
-        value = part[3:]
-        others = (8187, 8188, 8189, 8191, 8192, 8193, 8196, 12_000)
-        for length in itertools.chain(range(33), others):
-            changed = field(part[0], (value + bytes(length))[:length])
-            yield make(b"".join(good[:place] + [changed] + good[place + 1:]))
-        for length in (0, 1, len(value) - 1, len(value) + 1, len(value) + 4, 256, 65_535):
-            changed = field(part[0], value, length)
-            yield make(b"".join(good[:place] + [changed] + good[place + 1:]))
+    """Wrong lengths in a good job."""
+    yield from map(make, other_lengths(good_fields(1)))
 
 
 def chains():
@@ -143,17 +88,6 @@ def chains():
                 yield make(job(kind, 10, (1, 3, 6, 8, 10), *(steps * 5)[:count]))
     for steps in itertools.product(FAMILY_STEPS, repeat=2):
         yield make(job(1, 10, range(1, 11), *(family(*step) for step in steps)))
-
-
-BAD_STEPS = (
-    family(0, 1), family(8, 1), family(255, 1), family(1, 6), family(1, 3, 1), family(2, 0),
-    family(3, 0), family(4, 1), family(4, 11), family(5, 11), family(6, 3, 1), family(6, 5, 9),
-    family(7, 3, 1), family(2, LIMIT), family(2, LIMIT + 1), family(2, MAX), family(1, 3, MAX),
-    family(2, LIMIT // 10 + 1), family(7, 3, LIMIT), family(6, 3, LIMIT), family(7, 3, LIMIT + 1),
-    table(1, *range(1, 11)), table(*range(10), 0), table(0, *range(1, 10), LIMIT + 1),
-    table(0, LIMIT + 1, *[0] * 8, LIMIT), table(*range(10), 9), table(0, 1, *[0] * 8, 9),
-    table(*range(12)), table(0, 1), table(*range(10)), table(1, 1), table(0, 0), table(0, MAX),
-    table(0, 1, 1), table(1, MAX, 0), table(0, MAX, 0), table(*range(11), 10))
 
 
 def bad_steps():
@@ -247,75 +181,13 @@ def longest():
 
 # Random jobs
 
-def random_family(rng, capacity):
-    """A family step that is legal at this capacity, and its scale."""
-    while True:
-        number = rng.randint(1, 7)
-        p = rng.choice((rng.randint(0, 12), rng.randint(0, capacity), capacity // 2))
-        q = 0 if number <= 5 else rng.randint(0, 20)
-        if wf.family_refusal(capacity, number, p, q) == wf.ACCEPTED:
-            return family(number, p, q), wf.family_scale(capacity, number, p, q)
-
-
-def random_table(rng, capacity):
-    """A dual-feasible table of this capacity, and its scale."""
-    most = rng.choice((1, 2, 5, 30, 1000))
-    entries = [0] + [rng.randint(0, most) for _ in range(capacity)]
-    entries[-1] = max(1, wf.best_totals(entries[:-1] + [0])[-1] + rng.randint(0, 2))
-    return table(*entries), entries[-1]
-
-
 def random_fields(rng):
     kind = rng.randint(1, 2)
     capacity = rng.choice((1, 7, 10, 24, 100, 12_345, LIMIT))
     if rng.randint(0, 2) == 0:
         capacity = rng.randint(1, rng.choice((30, 1000, LIMIT)))
     sizes = [rng.randint(2 - kind, capacity) for _ in range(rng.randint(0, 9))]
-    fields = head(kind, capacity, sizes)
-    for _ in range(rng.choice((0, 1, 1, 2, 2, 3, 4, 5, 8))):
-        chosen = random_table if capacity <= 30 and rng.randint(0, 1) else random_family
-        step, capacity = chosen(rng, capacity)
-        fields.append(step)
-    return fields
-
-
-def change_byte(rng, data):
-    place = rng.randrange(len(data))
-    byte = rng.choice((0, 1, 255, data[place] ^ 1, rng.randrange(256), (data[place] + 1) % 256))
-    return data[:place] + bytes([byte]) + data[place + 1:]
-
-
-def damaged(rng, fields):
-    """The job with its fields or its bytes changed."""
-    way = rng.randint(0, 9)
-    place = rng.randrange(len(fields))
-    if way == 0:
-        fields = fields[:place] + fields[place + 1:]
-    elif way == 1:
-        fields = fields[:place] + [rng.choice(fields)] + fields[place:]
-    elif way == 2:
-        fields = rng.sample(fields, len(fields))
-    data = b"".join(fields)
-    cut = rng.randint(0, len(data))
-    if way == 3:
-        return data[:cut]
-    if way == 4:
-        return data[:cut] + bytes([rng.randrange(256)]) + data[cut:]
-    if way == 5:
-        return data[:cut] + data[cut + rng.randint(1, 4):]
-    if way > 5:  # mostly one byte
-        for _ in range(rng.choice((1, 1, 1, 2, 3))):
-            data = change_byte(rng, data)
-    return data
-
-
-def changed_value(rng, fields):
-    """The job with a byte of a value changed, tags and lengths kept."""
-    place = rng.randrange(len(fields))
-    part = fields[place]
-    if len(part) > 3:
-        part = part[:3] + change_byte(rng, part[3:])
-    return b"".join(fields[:place] + [part] + fields[place + 1:])
+    return head(kind, capacity, sizes) + random_steps(rng, capacity)
 
 
 def random_cases():
@@ -330,7 +202,7 @@ def all_cases():
     """Each case once, in the order of its first making."""
     cases = {}
     for part in (reckoned, form, truncated, tag_orders, lengths, chains, bad_steps, capacities,
-                 kinds, counts, buffers, longest, random_cases):
+                 kinds, counts, buffers, longest, random_cases, row_cases):
         cases.update(dict.fromkeys(part()))
     return list(cases)
 
@@ -338,19 +210,20 @@ def all_cases():
 # Answers
 
 def job_of(case):
-    b, k, runs = case[3], case[4], case[5:]
+    b, k, runs = case[4], case[5], case[6:]
     assert b <= MOST_BYTES and len(runs) == 2 * k
     data = b"".join(bytes([byte]) * count for count, byte in zip(runs[::2], runs[1::2]))
     return (data + bytes(b))[:b]
 
 
 def answer(case):
-    assert max(case[:3]) <= MOST_PLACES
+    assert max(case[:4]) <= MOST_PLACES
     images = [800_000 + i for i in range(case[0])]
     working = [7_000_000_000 + i for i in range(case[1])]
     listed = [900_000 + i for i in range(case[2])]
-    numbers = wf.job(job_of(case), images, working, listed)
-    return numbers + (checksum(images), checksum(listed))
+    scales = [700_000 + i for i in range(case[3])]
+    numbers = wf.job(job_of(case), images, working, listed, scales)
+    return numbers + (checksum(images), checksum(listed), checksum(scales))
 
 
 def line(row):

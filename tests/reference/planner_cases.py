@@ -14,14 +14,18 @@ from job_cases import family as family_step, job
 FOLDER = Path(__file__).resolve().parents[1] / "c"
 FAMILIES = ("no step", "threshold", "rounding", "mirrored quotient", "mirrored Vanderbeck", "Burdett-Johnson")
 MOST_TRIED = 16 * 4096  # the greatest p of all ranges
-WORDS = {1: "the capacity is 0 or over the limit", 17: "a size is 0 in a list, or over the capacity"}
+WORDS = {1: "the capacity is 0 or over the limit", 2: "the family is not 1 to 7, or in a sweep not 1 to 5",
+         3: "p or q is not legal for the family", 4: "the scale would pass the limit",
+         17: "a size is 0 in a list, or over the capacity",
+         21: "a job of rows has no row, too many rows, or too many coefficients"}
 LISTS = ("10 7 7 5 5 5", "10 6 6 6", "100 51 51 34 34 34 26 26 26 26", "planner.txt", "1 1 1", "8192 4097 2731 2731",
          "12287 8192 8192 4096 4096 4096", "12290 8194 8194 4097 4097 4097", "20000 13334 13334 6667 6667 6667",
          "65536 40000 30000", "65537 40000 30000", "196607 131072 131072 65536 65536 65536",
          "1000000000 600000000 600000000 400000001")
 REFUSED = ("10 11", "10 0", "0 1", "1000000001 1", "99999999999 1")
+USAGE = "usage: planner CAPACITY SIZE... | planner FILE | planner --rows FILE [FAMILY P Q]..."
 WRONG_ARGUMENTS = (
-    ("", "usage: planner CAPACITY SIZE... | planner FILE"),
+    ("", USAGE),
     ("10", "10: " + os.strerror(errno.ENOENT)),
     ("10 x", "argument 2: not a number: x"),
     ("x 10", "argument 1: not a number: x"),
@@ -52,13 +56,41 @@ WRONG_FILES = (
     ("digits.txt", ", line 3: a number of more than 64 bits: " + 20 * "9" + "..."),
     ("missing.txt", ": " + os.strerror(errno.ENOENT)),
     ("folder", ", line 1: " + os.strerror(errno.EISDIR)))
+MODEL = tuple(tuple(map(int, line.split())) for line in (FOLDER / "planner_rows.txt").read_text().splitlines())
+MODELS = (  # a file, its rows, and the steps
+    ("planner_rows.txt", MODEL, ()),
+    ("planner_rows.txt", MODEL, ((1, 3, 0), (3, 3, 0))),
+    ("planner_rows.txt", MODEL, ((4, 4, 0), (1, 2, 0), (2, 3, 0), (3, 2, 0), (5, 4, 0), (6, 3, 2), (7, 5, 2), (1, 9, 0))),
+    ("no_coefficients.txt", ((10,), (20, 7), (30,)), ((2, 1, 0),)),
+    ("planner_rows.txt", MODEL, ((8, 0, 0),)),
+    ("planner_rows.txt", MODEL, ((7, 4, 1),)),
+    ("planner_rows.txt", MODEL, ((1, 3, 0), (1, 5, 0))),
+    ("planner_rows.txt", MODEL, ((2, 100_000_000, 0),)),
+    ("no_rows.txt", (), ((1, 3, 0),)),
+    ("zero.txt", ((10, 5), (0, 5)), ((1, 3, 0),)),
+    ("over.txt", ((10, 5), (4, 4), (6, 5, 7)), ()),
+    ("most_rows.txt", (*[(31, *[7] * 31, 8)] * 63, (7, *[7] * 31, 8)), ()))
+WRONG_MODELS = (
+    ("", USAGE),
+    (" planner_rows.txt 1", USAGE),
+    (" planner_rows.txt 1 3", USAGE),
+    (" planner_rows.txt" + 9 * " 1 3 0", USAGE),
+    (" planner_rows.txt 1 x 0", "argument 4: not a number: x"),
+    (" planner_rows.txt 256 3 0", "argument 3: a number too large for a step: 256"),
+    (" planner_rows.txt 1 3 0 2 4294967296 0", "argument 7: a number too large for a step: 4294967296"),
+    (" row_letter.txt", "row_letter.txt, line 2: not a number: x"),
+    (" row_bits.txt", "row_bits.txt, line 3: a number of more than 32 bits: 4294967296"),
+    (" coefficient_bits.txt", "coefficient_bits.txt, line 2: a number of more than 32 bits: 4294967296"),
+    (" too_many_rows.txt", "too_many_rows.txt, line 65: more rows than a job can have: 11"),
+    (" too_many_coefficients.txt", "too_many_coefficients.txt, line 2: more coefficients than a job can have: 8"),
+    (" missing.txt", "missing.txt: " + os.strerror(errno.ENOENT)))
 
 
-def run_job(kind, capacity, sizes, step):
-    """The seven numbers of the answer, and the images."""
-    images, working, listed = [0] * 2048, [0] * 2048, [0] * 2047
-    steps = (family_step(*step),) if step else ()
-    numbers = wf.job(job(kind, capacity, sizes, *steps), images, working, listed)
+def run_job(kind, capacity, sizes, *steps):
+    """The numbers of the answer, and the images."""
+    images, working, listed, scales = [0] * 2048, [0] * 2048, [0] * 2047, [0] * 64
+    data = job(kind, capacity, sizes, *(family_step(*step) for step in steps))
+    numbers = wf.job(data, images, working, listed, scales)
     return numbers, images[:numbers[1]]
 
 
@@ -93,20 +125,41 @@ def sweeps(capacity, sizes, without):
     return text, best, step
 
 
+def refused(number, places=""):
+    return f"job refused, number {number}{places}: {WORDS[number]}\nexit 1\n"
+
+
+def inequality(coefficients, right_side):
+    return " +".join(f" {value} x{i + 1}" for i, value in enumerate(coefficients)) + f" <= {right_side}\n"
+
+
 def expected(capacity, *sizes):
-    refusal = 1 if capacity >= 2**32 else run_job(1, capacity, sizes, None)[0][0]
+    refusal = 1 if capacity >= 2**32 else run_job(1, capacity, sizes)[0][0]
     if refusal:
-        return f"job refused, number {refusal}: {WORDS[refusal]}\nexit 1\n"
-    without = run_job(1, capacity, sizes, None)[0][2]
+        return refused(refusal)
+    without = run_job(1, capacity, sizes)[0][2]
     lines, best, step = sweeps(capacity, sizes, without)
-    cut, images = run_job(2, capacity, sizes, step)
+    cut, images = run_job(2, capacity, sizes, *([step] if step else []))
     text = f"capacity {capacity}, {len(sizes)} sizes\n  {FAMILIES[0]:<19}           floor {without}\n{lines}"
     text += f"best floor {best}: {FAMILIES[step[0]]}, p = {step[1]}\n" if step else f"best floor {best}: no step\n"
-    text += "cut:" + " +".join(f" {image} x{i + 1}" for i, image in enumerate(images)) + f" <= {cut[4]}\n"
+    text += "cut:" + inequality(images, cut[4])
     if step:
         half = (capacity + 1) // 2
         _, image, scale = wf.image(capacity, *step, 0, half)
         text += f"one more size of {half} would add {image} to a sum that is divided by {scale}\n"
+    return text
+
+
+def expected_rows(rows, steps):
+    """Each row as a job of its own, of kind 2: a job of rows does the same for all of them."""
+    text = f"{len(rows)} rows, {len(steps)} steps\n"
+    if not rows:
+        return refused(21)
+    for place, (right_side, *coefficients) in enumerate(rows, start=1):
+        cut, images = run_job(2, right_side, coefficients, *steps)
+        if cut[0]:
+            return refused(cut[0], f", row {place}" + (f", step {cut[5]}" if cut[5] else ""))
+        text += f"row {place}:" + inequality(coefficients, right_side) + "  cut:" + inequality(images, cut[4])
     return text
 
 
@@ -121,6 +174,10 @@ def runs():
         yield name, expected(*numbers)
     for name, message in WRONG_FILES:
         yield name, f"planner: {name}{message}\nexit 2\n"
+    for name, rows, steps in MODELS:
+        yield " ".join(map(str, ("--rows", name, *sum(steps, ())))), expected_rows(rows, steps)
+    for words, message in WRONG_MODELS:
+        yield f"--rows{words}", f"planner: {message}\nexit 2\n"
 
 
 def main():

@@ -43,11 +43,11 @@ def differs(name, printed, expected):
 
 
 def example_cases():
-    """Each job of examples/ with its stored output; the hand-over job also as hexadecimal."""
+    """Each job of examples/ with its stored output; some of them also as hexadecimal."""
     for path in sorted(EXAMPLES.glob("*.job")):
         yield path.name, run(path.read_bytes()), path.with_suffix(".txt").read_bytes()
-    by_hand = bytes.fromhex((EXAMPLES / "handover.hex").read_text())
-    yield "handover.hex", (by_hand, b""), (EXAMPLES / "handover.job").read_bytes()
+    for path in sorted(EXAMPLES.glob("*.hex")):
+        yield path.name, (bytes.fromhex(path.read_text()), b""), path.with_suffix(".job").read_bytes()
 
 
 def job_cases(jobs):
@@ -55,17 +55,23 @@ def job_cases(jobs):
         yield f"job {data[:40].hex()}", run(data), wf.program(data)
 
 
+def longest_accepted(jobs, kind):
+    return max((data for data in jobs if data[3:4] == kind and b"refused" not in wf.program(data)), key=len)
+
+
 def longer_cases(jobs):
     """Input that starts with a longest accepted job: it is refused and not cut short."""
-    longest = max((data for data in jobs if b"refused" not in wf.program(data)), key=len)
-    assert len(longest) > MOST_BYTES - 16
-    for more in (1, 2, 12, 20_000, 200_000):
-        data = longest + bytes(MOST_BYTES - len(longest) + more)
-        yield f"{len(data)} bytes", run(data), b"refused 12 0\n"
+    for kind, printed in ((b"\1", b"refused 12 0\n"), (b"\3", b"refused 12 0 0\n")):
+        longest = longest_accepted(jobs, kind)
+        assert len(longest) > MOST_BYTES - 16
+        for more in (1, 2, 12, 20_000, 200_000):
+            data = longest + bytes(MOST_BYTES - len(longest) + more)
+            yield f"{len(data)} bytes", run(data), printed
 
 
 def piece_cases(jobs):
-    for data in jobs[:40]:
+    of_rows = [data for data in jobs if data[:4] == b"\1\0\1\3" and len(data) < 500]
+    for data in jobs[:40] + of_rows[-40:]:
         yield f"pieces of {data[:40].hex()}", run_in_pieces(data, 7), wf.program(data)
 
 

@@ -1,6 +1,7 @@
 """Holds the values that docs/REFERENCE.md shows to the independent
-implementation, its names and numbers to the C header, and docs/PROMISES.md to
-the must-fail edits and to the sections of docs/REFERENCE.md."""
+implementation, its names and numbers to that and to the C header, and
+docs/PROMISES.md to the must-fail edits and to the sections of
+docs/REFERENCE.md."""
 
 import pathlib
 import re
@@ -62,32 +63,71 @@ class Images(unittest.TestCase):
         self.assertEqual(met, set(range(1, 8)))
 
 
+def right_lengths(cell):
+    """The lengths that a cell of 4.1 allows."""
+    if cell.isdigit():
+        return {int(cell)}
+    bounds = numbers(re.findall(r"[\d,]*\d", cell))
+    if "× n" in cell:
+        factor, low, high = bounds
+        return {factor * n for n in range(low, high + 1)}
+    *bounds, factor = bounds
+    low, high = bounds if len(bounds) == 2 else (bounds[0], 65_535)  # "4 or more" ends with two bytes
+    return {length for length in range(low, high + 1) if length % factor == 0}
+
+
 class Jobs(unittest.TestCase):
 
     def stands_for(self):
         """The letters of 6.3, each for a job in hexadecimal."""
         text = " ".join(section("6.3 ").split())
-        named = re.findall(r"\b([HST])(?: stands)? for `([0-9A-F ]+)`", text)
-        self.assertEqual([letter for letter, _ in named], ["H", "S", "T"])
-        return dict(named)
+        named = dict(re.findall(r"\b([A-Z])(?: stands)? for `([0-9A-F ]+)`", text))
+        self.assertLessEqual({"H", "S", "T"}, set(named))
+        return named
 
-    def test_cases(self):
+    def cases(self):
+        """The jobs of 6.3, each with what is printed."""
         letters = self.stands_for()
-        met = 0
-        for row in rows(section("6.3 ")):
-            cell, printed = row[0].replace("`", ""), row[1].strip("`")
-            if cell.startswith("job"):
-                continue
+        for cell, printed, _ in rows(section("6.3 "))[1:]:
+            cell = cell.replace("`", "")
             for letter, job in letters.items():
                 cell = re.sub(r"^%s\b" % letter, job, cell)
-            if cell == "(empty)":
-                cell = ""
-            data = bytes(65536) if cell.startswith("65,536") else bytes.fromhex(cell)
-            with self.subTest(row=row):
+            same = re.fullmatch(r"65,536 bytes, all (\d)", cell)
+            if same:
+                yield bytes([int(same.group(1))]) * 65_536, printed.strip("`")
+            else:
+                yield bytes.fromhex(cell.replace("(empty)", "")), printed.strip("`")
+
+    def test_cases(self):
+        met = 0
+        for data, printed in self.cases():
+            with self.subTest(job=data[:40].hex()):
                 expected = "".join(line + "\n" for line in printed.split(" / "))
                 self.assertEqual(wf.program(data), expected.encode())
             met += 1
         self.assertGreaterEqual(met, 31)
+
+    def test_cases_of_rows(self):
+        """A model of several rows, refusals with their row, and those of the fourth byte alone."""
+        printed = {text: data for data, text in self.cases() if data[3:4] == b"\3"}
+        refused = {tuple(map(int, text.split()[1:4])): data for text, data in printed.items() if "refused" in text}
+        self.assertTrue(any(text.count("scale ") > 1 for text in printed))
+        self.assertLessEqual({1, 11, 12, 13, 14, 15, 17, 18, 21}, {number for number, _, _ in refused})
+        self.assertTrue(any(row > 1 and step == 0 for _, row, step in refused))
+        self.assertTrue(any(row > 1 and step > 0 for _, row, step in refused))
+        self.assertTrue(any(data[0] != wf.KIND for data in refused.values()))
+
+    def test_tags(self):
+        documented = [row for row in rows(section("4.1 ")) if row[0].isdigit()]
+        self.assertEqual([int(row[0]) for row in documented], list(range(wf.KIND, wf.ROW + 1)))
+        for tag, cell, _ in documented:
+            due = {length for length in range(65_536) if wf.length_right(int(tag), length)}
+            self.assertEqual(right_lengths(cell), due, tag)
+
+    def test_kinds(self):
+        """The kinds that 4.1 names are those that can be accepted."""
+        named = {int(digit) for row in rows(section("4.1 ")) if row[0] == "1" for digit in re.findall(r"\d", row[2])}
+        self.assertEqual(named, {wf.FLOOR, wf.CUT, wf.ROWS})
 
     def test_drawn_job(self):
         drawn = re.findall(r"^ +(\d+) +((?:[0-9A-F]{2} )*[0-9A-F]{2}) ", section("4.7 "), re.M)
@@ -133,24 +173,37 @@ class Promises(unittest.TestCase):
 class Names(unittest.TestCase):
 
     def test_numbers_of_refusal(self):
-        """Those of the document are those of the header."""
+        """Those of the document are those of the header and of the reference."""
         in_header = dict(re.findall(r"WINDOWFLOOR_(\w+) = (\d+)", HEADER))
         documented = [row for row in rows(section("7. ")) if row[0].isdigit()]
         for row in documented:
-            self.assertEqual(in_header[row[1].strip("`")], row[0])
-        last = re.search(r"#define WINDOWFLOOR_LAST_REFUSAL (\d+)", HEADER).group(1)
-        self.assertEqual([int(row[0]) for row in documented], list(range(1, int(last) + 1)))
+            name = row[1].strip("`")
+            self.assertEqual((in_header[name], getattr(wf, name)), (row[0], int(row[0])))
+        last = int(re.search(r"#define WINDOWFLOOR_LAST_REFUSAL (\d+)", HEADER).group(1))
+        self.assertEqual(last, wf.BAD_ROWS)
+        self.assertEqual([int(row[0]) for row in documented], list(range(1, last + 1)))
 
     def test_limits(self):
-        """The document's bounds are the header's."""
+        """The document's bounds are the header's, and those that the reference names are the reference's."""
         defined = dict(re.findall(r"#define WINDOWFLOOR_(\w+) (\d+)u", HEADER))
-        met = 0
+        met = []
         for row in rows(section("8. ")):
             if len(row) == 4 and row[2].startswith("`"):
-                bound = max(numbers(re.findall(r"[\d,]*\d", row[1])))
-                self.assertEqual(int(defined[row[2].strip("`")]), bound, row)
-                met += 1
-        self.assertGreaterEqual(met, 14)
+                name, bound = row[2].strip("`"), max(numbers(re.findall(r"[\d,]*\d", row[1])))
+                self.assertEqual((int(defined[name]), getattr(wf, name, bound)), (bound, bound), row)
+                met.append(name)
+        self.assertGreaterEqual(len(met), 17)
+        named = {name for name in vars(wf) if re.match("LIMIT$|MOST_|JOB_[A-Z]+$", name)}
+        self.assertLessEqual(named, set(met))
+
+    def test_answers(self):
+        """The structs of the document have the fields of the header's, in their order."""
+        documented = dict(re.findall(r"struct (\w+) { uint64_t ([^;]+); };", REFERENCE))
+        declared = dict(re.findall(r"struct (\w+) {\n(.*?)\n};", HEADER, re.S))
+        self.assertEqual(len(documented), 4)
+        for name, fields in documented.items():
+            self.assertEqual(fields.split(", "), re.findall(r"uint64_t (\w+);", declared[name]), name)
+        self.assertIn("row", documented["windowfloor_job_answer"].split(", "))
 
     def test_version(self):
         version = re.search(r'#define WINDOWFLOOR_VERSION "([^"]+)"', HEADER).group(1)

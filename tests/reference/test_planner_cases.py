@@ -1,12 +1,14 @@
 """Tests of what examples/planner.c takes for granted: from 1 on, the p of a
 family that are legal with a scale within the limit are one run of numbers that
-begins with 1 or 2, or there are none."""
+begins with 1 or 2, or there are none. And of what planner_cases.py takes for
+granted: a job of rows gives the cuts of as many jobs of one row."""
 
 import unittest
 from unittest import mock
 
 import windowfloor as wf
-from planner_cases import greatest_p
+from job_cases import family, field
+from planner_cases import MODEL, MODELS, expected_rows, greatest_p, run_job
 
 FAMILIES = range(1, 6)
 
@@ -42,6 +44,46 @@ class LegalParameters(unittest.TestCase):
                     self.assertEqual(max(legal, default=0), greatest)
                     self.assertEqual(legal, sorted(p for p in near if legal and legal[0] <= p <= greatest))
                     self.assertLessEqual(legal[0] if legal else 1, 2)
+
+
+def run_rows(rows, steps):
+    """The numbers of the answer, the images and the scales of one job of kind 3."""
+    images, working, listed, scales = [0] * 2048, [0] * 2048, [0] * 2047, [0] * 64
+    fields = [field(6, b"".join(number.to_bytes(4, "big") for number in row)) for row in rows]
+    data = field(1, b"\3") + b"".join(fields + [family(*step) for step in steps])
+    numbers = wf.job(data, images, working, listed, scales)
+    return numbers, images[:numbers[1]], scales[:len(rows)]
+
+
+class Rows(unittest.TestCase):
+    def test_reckoned_by_hand(self):
+        """Family 1 turns 6 into 7 at C = 7 and leaves all else; then family 3, each with p = 3."""
+        self.assertEqual(expected_rows(MODEL, ((1, 3, 0), (3, 3, 0))), """4 rows, 2 steps
+row 1: 7 x1 + 5 x2 + 3 x3 <= 10
+  cut: 4 x1 + 3 x2 + 2 x3 <= 6
+row 2: 9 x1 + 6 x2 + 5 x3 + 3 x4 <= 13
+  cut: 6 x1 + 4 x2 + 2 x3 + 2 x4 <= 8
+row 3: 5 x1 + 4 x2 + 4 x3 + 0 x4 <= 9
+  cut: 4 x1 + 2 x2 + 2 x3 + 0 x4 <= 6
+row 4: 6 x1 + 3 x2 <= 7
+  cut: 4 x1 + 2 x2 <= 4
+""")
+
+    def check(self, rows, steps):
+        numbers, images, scales = run_rows(rows, steps)
+        cuts = [run_job(2, right_side, coefficients, *steps) for right_side, *coefficients in rows]
+        first = next((place for place, (cut, _) in enumerate(cuts, start=1) if cut[0]), 0)
+        if first == 0:
+            self.assertEqual(images, sum((of_row for _, of_row in cuts), []))
+            self.assertEqual(scales, [cut[4] for cut, _ in cuts])
+        refused = cuts[first - 1][0] if first else (0,) * 8
+        self.assertEqual((numbers[0], numbers[5], numbers[7]), (refused[0], refused[5], first))
+
+    def test_one_job_of_rows(self):
+        for name, rows, steps in MODELS:
+            if rows:
+                with self.subTest(name=name, steps=steps):
+                    self.check(rows, steps)
 
 
 if __name__ == "__main__":

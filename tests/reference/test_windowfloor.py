@@ -1,53 +1,30 @@
-"""Tests of the reference: the examples of the scope document ("01"), and
-brute force over small capacities."""
+"""Tests of the reference: the examples of the scope document ("01"), values
+reckoned by hand from it and from the change request for many rows ("02", ticket
+1), and brute force over small capacities."""
 
 import random
 import unittest
 from functools import lru_cache
 
 import windowfloor as wf
+from job_bytes import (
+    family as family_step, field, job as make_job, row, rows_job, table as table_step, word)
 
 LIMIT = 1_000_000_000
 MARK = 77  # fills places that have to stay
-
-
-# Building jobs
-
-def word(number):
-    return number.to_bytes(4, "big")
-
-
-def field(tag, value):
-    return bytes([tag]) + len(value).to_bytes(2, "big") + value
-
-
-def words(numbers):
-    return b"".join(word(number) for number in numbers)
-
-
-def family_step(family, p, q=0):
-    return field(4, bytes([family]) + word(p) + word(q))
-
-
-def table_step(*entries):
-    return field(5, words(entries))
-
-
-def make_job(kind, capacity, sizes, *steps):
-    head = field(1, bytes([kind])) + field(2, word(capacity)) + field(3, words(sizes))
-    return head + b"".join(steps)
+PLACES = 2050  # of each buffer but the scales'
 
 
 def buffers():
-    return [MARK] * 2050, [MARK] * 2050, [MARK] * 2050
+    return [MARK] * PLACES, [MARK] * PLACES, [MARK] * PLACES, [MARK] * 66
 
 
 def answer(data):
     return wf.job(data, *buffers())
 
 
-def refused(number, step=0, length=0):
-    return number, 0, 0, 0, 0, step, length
+def refused(number, step=0, length=0, row=0):
+    return number, 0, 0, 0, 0, step, length, row
 
 
 # Brute force
@@ -88,6 +65,32 @@ def legal_parameters(capacity, families=range(1, 8), most_q=14):
             for q in range(0, most_q + 1):
                 if wf.image(capacity, family, p, q, 0)[0] == 0:
                     yield family, p, q
+
+
+# Random jobs
+
+def as_table(rng, capacity, family, p, q):
+    """A family's images as a table, some of them lowered."""
+    entries = [wf.image(capacity, family, p, q, x)[1] for x in range(capacity + 1)]
+    lowered = [rng.randint(value // 2, value) for value in entries[:-1]]
+    return table_step(*lowered, entries[-1])
+
+
+def random_chain(rng, capacity):
+    """Steps that are accepted one after another."""
+    steps = []
+    for _ in range(rng.randint(0, 4)):
+        choices = list(legal_parameters(min(capacity, 30), most_q=4))
+        family, p, q = rng.choice(choices)
+        number, _, scale = wf.image(capacity, family, p, q, 0)
+        if number != 0:
+            continue
+        if capacity <= 60 and rng.randint(0, 2) == 0:
+            steps.append(as_table(rng, capacity, family, p, q))
+        else:
+            steps.append(family_step(family, p, q))
+        capacity = scale
+    return steps
 
 
 class Reckoning(unittest.TestCase):
@@ -141,9 +144,9 @@ class Reckoning(unittest.TestCase):
 
     def test_jobs(self):
         sizes = [6, 6, 6]
-        self.assertEqual(answer(make_job(1, 10, sizes)), (0, 3, 2, 18, 10, 0, 0))
+        self.assertEqual(answer(make_job(1, 10, sizes)), (0, 3, 2, 18, 10, 0, 0, 0))
         self.assertEqual(answer(make_job(1, 10, sizes, family_step(1, 5))),
-                         (0, 3, 3, 30, 10, 0, 0))
+                         (0, 3, 3, 30, 10, 0, 0, 0))
         self.assertEqual(answer(b""), refused(14))
 
     def test_program(self):
@@ -280,25 +283,32 @@ class Tables(unittest.TestCase):
         self.assertEqual(working, entries)
 
 
-class Jobs(unittest.TestCase):
+class Refusals(unittest.TestCase):
+    """What is common to tests of refused jobs."""
 
     def refusals(self, cases):
         for data, expected in cases:
-            images, working, lst = buffers()
+            images, working, lst, scales = buffers()
             with self.subTest(data=data[:60].hex()):
-                self.assertEqual(wf.job(data, images, working, lst), expected)
-                self.assertEqual(images, [MARK] * 2050)
-                self.assertEqual(lst[expected[6]:], [MARK] * (2050 - expected[6]))
+                self.assertEqual(wf.job(data, images, working, lst, scales), expected)
+                self.assertEqual((images, scales), ([MARK] * PLACES, [MARK] * 66))
+                self.assertEqual(lst[expected[6]:], [MARK] * (PLACES - expected[6]))
+
+
+class Jobs(Refusals):
 
     def test_buffers_and_length(self):
-        full, short = [0] * 2048, [0] * 2047
-        long_job = bytes(65536)
-        self.assertEqual(wf.job(long_job, [], [], []), refused(12))
-        self.assertEqual(wf.job(long_job[1:], [], [], []), refused(7))
-        self.assertEqual(wf.job(b"", short, full, short), refused(7))
-        self.assertEqual(wf.job(b"", full, short, short), refused(7))
-        self.assertEqual(wf.job(b"", full, full, short[1:]), refused(7))
-        self.assertEqual(wf.job(b"", full, full, short), refused(14))
+        """Each too short by one place, for every kind; the length of the job comes first."""
+        enough = 2048, 2048, 2047, 64
+        jobs = [(b"", refused(14)), (bytes(65535), refused(14)), (make_job(1, 10, []), (0, 0, 0, 0, 10, 0, 0, 0)),
+                (make_job(2, 10, []), (0, 0, 0, 0, 10, 0, 0, 0)), (rows_job([(10,)]), (0,) * 8)]
+        for data, expected in jobs:
+            self.assertEqual(wf.job(data, *([0] * places for places in enough)), expected)
+            for short in range(4):
+                lent = [[0] * (places - (which == short)) for which, places in enumerate(enough)]
+                self.assertEqual(wf.job(data, *lent), refused(7))
+        self.assertEqual(wf.job(bytes(65536), [], [], [], []), refused(12))
+        self.assertEqual(wf.job(bytes(65535), [], [], [], []), refused(7))
 
     def test_fields(self):
         head = make_job(1, 10, [1])
@@ -321,11 +331,11 @@ class Jobs(unittest.TestCase):
     def test_list_part(self):
         step = family_step(9, 0)
         self.refusals([
-            (make_job(0, 0, [1], step), refused(16)), (make_job(3, 5, [1]), refused(16)),
+            (make_job(0, 0, [1], step), refused(16)), (make_job(255, 5, [1]), refused(16)),
             (make_job(1, 0, [1], step), refused(1)), (make_job(2, LIMIT + 1, [0]), refused(1)),
             (make_job(1, 10, [11], step), refused(17)), (make_job(1, 10, [0], step), refused(17)),
             (make_job(2, 10, [0, 11]), refused(17))])
-        self.assertEqual(answer(make_job(2, 10, [0, 10])), (0, 2, 0, 0, 10, 0, 0))
+        self.assertEqual(answer(make_job(2, 10, [0, 10])), (0, 2, 0, 0, 10, 0, 0, 0))
 
     def test_steps(self):
         ok = family_step(1, 3)
@@ -340,42 +350,21 @@ class Jobs(unittest.TestCase):
             (make_job(1, 10, [1], ok, table_step(0, 1, 2, 3)), refused(18, 2))])
 
     def test_accepted_chain_and_places_that_stay(self):
-        images, working, lst = buffers()
-        data = make_job(1, 5, [1, 4, 5], table_step(0, 1, 1, 1, 1, 5), family_step(2, 1))
-        self.assertEqual(wf.job(data, images, working, lst), (0, 3, 1, 5, 5, 0, 0))
-        self.assertEqual(images, [0, 0, 5] + [MARK] * 2047)
-        self.assertEqual((len(working), lst), (2050, [MARK] * 2050))
-
-    def as_table(self, rng, capacity, family, p, q):
-        """A family's images as a table, some of them lowered."""
-        entries = [wf.image(capacity, family, p, q, x)[1] for x in range(capacity + 1)]
-        lowered = [rng.randint(value // 2, value) for value in entries[:-1]]
-        return table_step(*lowered, entries[-1])
-
-    def random_chain(self, rng, capacity):
-        """Steps that are accepted one after another."""
-        steps = []
-        for _ in range(rng.randint(0, 4)):
-            choices = list(legal_parameters(min(capacity, 30), most_q=4))
-            family, p, q = rng.choice(choices)
-            number, _, scale = wf.image(capacity, family, p, q, 0)
-            if number != 0:
-                continue
-            if capacity <= 60 and rng.randint(0, 2) == 0:
-                steps.append(self.as_table(rng, capacity, family, p, q))
-            else:
-                steps.append(family_step(family, p, q))
-            capacity = scale
-        return steps
+        for kind, floor, total in ((1, 1, 5), (2, 0, 0)):
+            images, working, lst, scales = buffers()
+            data = make_job(kind, 5, [1, 4, 5], table_step(0, 1, 1, 1, 1, 5), family_step(2, 1))
+            self.assertEqual(wf.job(data, images, working, lst, scales), (0, 3, floor, total, 5, 0, 0, 0))
+            self.assertEqual(images, [0, 0, 5] + [MARK] * 2047)
+            self.assertEqual((len(working), lst, scales), (PLACES, [MARK] * PLACES, [MARK] * 66))
 
     def test_floors_are_safe(self):
         rng = random.Random(2)
         for _ in range(250):
             capacity = rng.randint(1, 12)
             sizes = [rng.randint(1, capacity) for _ in range(rng.randint(0, 6))]
-            data = make_job(1, capacity, sizes, *self.random_chain(rng, capacity))
-            number, n, floor, total, scale, step, length = answer(data)
-            self.assertEqual((number, n, step, length), (0, len(sizes), 0, 0))
+            data = make_job(1, capacity, sizes, *random_chain(rng, capacity))
+            number, n, floor, total, scale, step, length, row = answer(data)
+            self.assertEqual((number, n, step, length, row), (0, len(sizes), 0, 0, 0))
             self.assertEqual(floor, -(-total // scale))
             self.assertLessEqual(floor, least_windows(sizes, capacity))
 
@@ -383,13 +372,201 @@ class Jobs(unittest.TestCase):
         rng = random.Random(3)
         for _ in range(150):
             capacity = rng.randint(1, 9)
-            images, working, lst = buffers()
-            row = list(range(capacity + 1))
-            data = make_job(2, capacity, row, *self.random_chain(rng, capacity))
-            number, n, _, _, scale, _, _ = wf.job(data, images, working, lst)
+            images, working, lst, scales = buffers()
+            data = make_job(2, capacity, range(capacity + 1), *random_chain(rng, capacity))
+            number, n, _, _, scale, _, _, _ = wf.job(data, images, working, lst, scales)
             self.assertEqual((number, n, images[0]), (0, capacity + 1, 0))
             for sizes in fitting(capacity):
                 self.assertLessEqual(sum(images[x] for x in sizes), scale)
+
+
+KIND_3 = field(1, b"\3")
+IDENTITY = table_step(*range(11))  # of capacity 10
+
+
+class RowGrammar(Refusals):
+    """02, ticket 1: which fields may follow, their lengths, and 21."""
+
+    def test_tags(self):
+        good, step = row(10, 5), family_step(1, 3)
+        capacity, sizes = field(2, word(10)), field(3, word(5))
+        self.refusals([
+            (KIND_3 + capacity, refused(14)), (KIND_3 + capacity + sizes, refused(14)), (KIND_3 + sizes, refused(14)),
+            (KIND_3 + good + capacity, refused(14)), (KIND_3 + good + step + sizes, refused(14)),
+            (KIND_3 + KIND_3 + good, refused(14)), (KIND_3 + good + KIND_3, refused(14)),
+            (KIND_3 + step + good, refused(14)), (KIND_3 + good + step + good, refused(14)),
+            (KIND_3 + field(7, b"") + good, refused(14)), (good + KIND_3, refused(14)),
+            (KIND_3 + good + step * 9, refused(14)), (KIND_3 + step * 9, refused(14)),
+            (KIND_3 + good + step * 8 + b"\4", refused(13)), (KIND_3 + good[:-1], refused(13))])
+        self.assertEqual(answer(KIND_3 + good + step * 8)[0], 0)
+
+    def test_tag_6_in_other_kinds(self):
+        for kind in (0, 1, 2, 4, 255):
+            head = make_job(kind, 10, [5])
+            self.refusals([(head[:4] + row(10, 5), refused(14)), (head[:11] + row(10, 5), refused(14)),
+                           (head + row(10, 5), refused(14)), (head[:4] + family_step(1, 3), refused(14)),
+                           (head + family_step(1, 3) + row(10, 5), refused(14)), (head[:4], refused(14))])
+
+    def test_lengths(self):
+        for length in range(10):
+            data = KIND_3 + field(6, (word(10) + word(3) + bytes(2))[:length])
+            expected = {4: (0,) * 8, 8: (0, 1) + (0,) * 6}.get(length, refused(15))
+            with self.subTest(length=length):
+                self.assertEqual(answer(data), expected)
+
+    def test_numbers_of_rows_and_coefficients(self):
+        wrong = family_step(0, 0)
+        over = [(0, 1)] * 65  # 21 goes before 1
+        self.refusals([
+            (KIND_3, refused(21)), (KIND_3 + wrong, refused(21)), (KIND_3 + table_step(0, 1, 1) * 8, refused(21)),
+            (rows_job(over), refused(21)), (rows_job(over, wrong), refused(21)), (rows_job([(0,)] * 65), refused(21)),
+            (rows_job([(0,) * 2050]), refused(21)), (rows_job([(10,) * 3001]), refused(21)),
+            (rows_job([(10,) * 1025, (10,) * 1026]), refused(21)),
+            (rows_job([(10,)] * 63 + [(10,) * 2050]), refused(21)),
+            (rows_job(over) + b"\6\0", refused(13)), (rows_job(over) + field(2, word(1)), refused(14)),
+            (rows_job(over) + field(6, bytes(5)), refused(15)), (KIND_3 + wrong + field(5, bytes(4)), refused(15)),
+            (rows_job(over, wrong) + row(10), refused(14)),
+            (rows_job([(0,) * 2050]) + field(4, bytes(8)), refused(15))])
+        for rows, n in (([(10,)] * 64, 0), ([(10,) * 2049], 2048), ([(10,) * 33] * 64, 2048),
+                        ([(10,) * 2049] + [(10,)] * 63, 2048)):
+            self.assertEqual(answer(rows_job(rows)), (0, n, 0, 0, 0, 0, 0, 0))
+
+
+class Rows(Refusals):
+    """02, ticket 1: rows judged one after the other."""
+
+    def accepted(self, data, images, scales):
+        lent_images, working, lst, lent_scales = buffers()
+        self.assertEqual(wf.job(data, lent_images, working, lst, lent_scales), (0, len(images), 0, 0, 0, 0, 0, 0))
+        self.assertEqual(lent_images, images + [MARK] * (PLACES - len(images)))
+        self.assertEqual(lent_scales, scales + [MARK] * (66 - len(scales)))
+        self.assertEqual(lst, [MARK] * PLACES)
+
+    def test_accepted(self):
+        """Row 2 by hand: 9 4 5 stay at capacity 9, and their mirrored quotients are 6, 2 and 6 - 2."""
+        rows = [(10, 7, 7, 5, 5, 5), (9, 9, 4, 5), (6,)]
+        self.accepted(rows_job(rows), [7, 7, 5, 5, 5, 9, 4, 5], [10, 9, 6])
+        self.accepted(rows_job(rows[:2], family_step(1, 4), family_step(3, 3)), [6, 6, 3, 3, 3, 6, 2, 4], [6, 6])
+        self.accepted(rows_job(rows[1:], family_step(2, 1)), [9, 0, 9], [9, 6])
+        self.accepted(rows_job([(10, 0, 10), (10, 3)], IDENTITY, table_step(*[0] * 10, 7)), [0, 7, 0], [7, 7])
+
+    def test_a_table_behind_a_step_that_levels_the_rows(self):
+        """Family 4 with p = 6 has scale 10 at every capacity: 12 and 10 go to 10."""
+        self.accepted(rows_job([(10, 10), (12, 12, 0)], family_step(4, 6), IDENTITY), [10, 10, 0], [10, 10])
+
+    def test_refused_rows(self):
+        good, step = (10, 7, 0), family_step(1, 3)
+        for before in (0, 1, 2, 63):
+            rows = [good] * before
+            self.refusals([
+                (rows_job(rows + [(0, 3)], step), refused(1, row=before + 1)),
+                (rows_job(rows + [(0,)]), refused(1, row=before + 1)),
+                (rows_job(rows + [(LIMIT + 1, 3)], step), refused(1, row=before + 1)),
+                (rows_job(rows + [(10, 3, 11)], step), refused(17, row=before + 1)),
+                (rows_job(rows + [(5, 0)], step), refused(3, 1, row=before + 1)),
+                (rows_job(rows + [(11,)], step, family_step(2, LIMIT // 10)), refused(4, 2, row=before + 1)),
+                (rows_job(rows + [(9, 3)], step, step, IDENTITY), refused(18, 3, row=before + 1))])
+
+    def test_refused_steps_of_row_1(self):
+        """What does not depend on the right side is found in the first row."""
+        rows, step = [(10, 7), (10, 7)], family_step(1, 3)
+        self.refusals([
+            (rows_job(rows, step, family_step(8, 0)), refused(2, 2, row=1)),
+            (rows_job(rows, table_step(1, 1)), refused(8, 1, row=1)),
+            (rows_job(rows, step, table_step(0, 0)), refused(9, 2, row=1)),
+            (rows_job(rows, table_step(0, LIMIT + 1)), refused(10, 1, row=1)),
+            (rows_job(rows, step, table_step(0, 1, 1, 2)), refused(11, 2, 3, row=1))])
+
+    def test_order(self):
+        step, wrong = family_step(1, 3), family_step(1, 6)
+        over, zero, good = (10, 11), (0, 5), (10, 5)
+        self.refusals([
+            (rows_job([over, zero]), refused(17, row=1)), (rows_job([zero, over]), refused(1, row=1)),
+            (rows_job([good, zero], wrong), refused(3, 1, row=1)),
+            (rows_job([(12, 5), over], wrong), refused(17, row=2)),
+            (rows_job([(12, 5), good], wrong), refused(3, 1, row=2)),
+            (rows_job([over, good], wrong), refused(17, row=1)),
+            (rows_job([good, over], table_step(0, 1, 1)), refused(11, 1, 2, row=1)),
+            (rows_job([good, (11, 5), zero], step, IDENTITY), refused(18, 2, row=2)),
+            (rows_job([good, (11, 12)], IDENTITY), refused(17, row=2)),
+            (rows_job([good, (0, 1)], IDENTITY), refused(1, row=2))])
+
+    def one_by_one(self, rows, steps):
+        """What kind 2 gives row by row, as kind 3 has to say it."""
+        images, scales = [], []
+        for place, (right, *coefficients) in enumerate(rows, start=1):
+            lent_images, working, lst, unused = buffers()
+            found = wf.job(make_job(2, right, coefficients, *steps), lent_images, working, lst, unused)
+            if found[0] != 0:
+                return found[:7] + (place,), [], [], lst
+            images += lent_images[:found[1]]
+            scales.append(found[4])
+        return (0, len(images), 0, 0, 0, 0, 0, 0), images, scales, [MARK] * PLACES
+
+    def random_row(self, rng, capacity):
+        right = rng.choice((capacity, capacity, rng.randint(0, 12)))
+        return (right,) + tuple(rng.randint(0, right + rng.randint(0, 3) // 3) for _ in range(rng.randint(0, 4)))
+
+    def test_as_cuts_one_by_one(self):
+        rng = random.Random(5)
+        outcomes = set()
+        for _ in range(600):
+            capacity = rng.randint(1, 12)
+            steps = random_chain(rng, capacity)
+            rows = [self.random_row(rng, capacity) for _ in range(rng.randint(1, 4))]
+            images, working, lst, scales = buffers()
+            found = wf.job(rows_job(rows, *steps), images, working, lst, scales)
+            expected, due_images, due_scales, due_list = self.one_by_one(rows, steps)
+            with self.subTest(rows=rows, steps=steps):
+                self.assertEqual(found, expected)
+                self.assertEqual(images, due_images + [MARK] * (PLACES - len(due_images)))
+                self.assertEqual(scales, due_scales + [MARK] * (66 - len(due_scales)))
+                self.assertEqual(lst, due_list)
+            outcomes.add((found[0], found[7] > 1))
+        self.assertLessEqual({(0, False), (1, True), (3, True), (17, False), (17, True), (18, True)}, outcomes)
+
+    def test_cuts_hold(self):
+        rng = random.Random(6)
+        for _ in range(60):
+            first = rng.randint(4, 9)
+            steps = random_chain(rng, first)
+            rights = [right for right in range(1, 10) if answer(make_job(2, right, [], *steps))[0] == 0]
+            images, working, lst, scales = buffers()
+            data = rows_job([(right, *range(right + 1)) for right in rights], *steps)
+            self.assertEqual(wf.job(data, images, working, lst, scales)[0], 0)
+            at = 0
+            for right, scale in zip(rights, scales):
+                for sizes in fitting(right):
+                    self.assertLessEqual(sum(images[at + x] for x in sizes), scale)
+                at += right + 1
+
+
+class RowTexts(unittest.TestCase):
+    """02, ticket 1: what the program prints for kind 3, and where the fourth byte is 3."""
+
+    def test_accepted(self):
+        data = rows_job([(10, 7, 7, 5, 5, 5), (9,), (9, 9, 4, 5)], family_step(1, 4), family_step(3, 3))
+        self.assertEqual(wf.program(data),
+                         b"scale 6\nimages 6 6 3 3 3\nscale 6\nimages\nscale 6\nimages 6 2 4\n")
+        self.assertEqual(wf.program(rows_job([(4,)])), b"scale 4\nimages\n")
+
+    def test_refused(self):
+        for data, text in [
+                (rows_job([(10, 5), (10, 11)]), b"refused 17 2 0\n"), (KIND_3, b"refused 21 0 0\n"),
+                (rows_job([(10, 5), (11, 5)], IDENTITY), b"refused 18 2 1\n"), (KIND_3 + b"\6", b"refused 13 0 0\n"),
+                (rows_job([(10,)], table_step(0, 0, 2, 1)), b"refused 11 1 1\nlist 1 2\n"),
+                (KIND_3 + bytes(65532), b"refused 12 0 0\n"), (bytes(65536), b"refused 12 0\n"),
+                (bytes([3] * 65536), b"refused 12 0 0\n")]:
+            self.assertEqual(wf.program(data), text)
+
+    def test_fourth_byte(self):
+        """It counts where there is no kind at all, and where the job is too short for it."""
+        for data, text in [
+                ("09000003", "14 0 0"), ("02000103", "14 0 0"), ("0100020303", "15 0 0"), ("01000003", "15 0 0"),
+                ("01000203", "13 0 0"), ("060004030000", "13 0 0"), ("030303", "13 0"), ("030003", "13 0"),
+                ("01000104", "14 0")]:
+            with self.subTest(data=data):
+                self.assertEqual(wf.program(bytes.fromhex(data)).decode(), "refused %s\n" % text)
 
 
 class Sweeps(unittest.TestCase):
@@ -403,7 +580,7 @@ class Sweeps(unittest.TestCase):
             high = low + rng.randint(0, 12)
             expected = (20, 0, 0)
             for p in range(low, high + 1):
-                number, _, floor, _, _, _, _ = answer(
+                number, _, floor, *_ = answer(
                     make_job(1, capacity, sizes, family_step(family, p)))
                 if number == 0 and (expected[0] == 20 or floor > expected[1]):
                     expected = (0, floor, p)

@@ -1,11 +1,13 @@
-"""Reference for the operations of the scope document ("01"), written for
-clarity. Comments name the section of 01 that a function follows."""
+"""Reference for the operations of the scope document ("01") with the change
+request for many rows ("02", ticket 1), written for clarity. Comments name the
+section of 01, or the ticket of 02, that a function follows."""
 
 import sys
+from functools import lru_cache
 
 LIMIT = 1_000_000_000  # capacities, parameters, scales and table entries
 
-# Refusal numbers (01, Operations and what they refuse).
+# Refusal numbers (01, Operations and what they refuse; 02, ticket 1).
 ACCEPTED = 0
 BAD_CAPACITY = 1
 BAD_FAMILY = 2
@@ -27,9 +29,13 @@ BAD_SIZE = 17
 OTHER_CAPACITY = 18
 BAD_RANGE = 19
 NO_LEGAL_P = 20
+BAD_ROWS = 21
 
-FLOOR, CUT = 1, 2  # kinds
-KIND, CAPACITY, SIZES, FAMILY_STEP, TABLE_STEP = 1, 2, 3, 4, 5  # tags
+FLOOR, CUT, ROWS = 1, 2, 3  # kinds
+KIND, CAPACITY, SIZES, FAMILY_STEP, TABLE_STEP, ROW = 1, 2, 3, 4, 5, 6  # tags
+STEPS = FAMILY_STEP, TABLE_STEP
+MOST_ENTRIES, MOST_SIZES, MOST_STEPS, MOST_ROWS, MOST_JOB_BYTES = 2048, 2048, 8, 64, 65535
+JOB_IMAGES, JOB_WORKING, JOB_LIST, JOB_SCALES = 2048, 2048, 2047, 64  # least places
 
 
 # 01, Words
@@ -230,6 +236,12 @@ def best_totals(entries):
     return best
 
 
+@lru_cache(maxsize=16)
+def known_best(entries):
+    """best_totals of a tuple. A job's table comes again in each of its rows."""
+    return best_totals(entries)
+
+
 def counterexample(entries, best):
     """Tables: the counterexample."""
     found = []
@@ -256,7 +268,7 @@ def content_refusal(entries):
 
 def early_table_refusal(entries, working, lst):
     """Operations, Table check: refusals 6 to 10, or 0."""
-    if not 2 <= len(entries) <= 2048:
+    if not 2 <= len(entries) <= MOST_ENTRIES:
         return BAD_COUNT
     if len(working) < len(entries) or len(lst) < len(entries) - 1:
         return SHORT_BUFFER
@@ -268,7 +280,7 @@ def table_check(entries, working, lst):
     number = early_table_refusal(entries, working, lst)
     if number != ACCEPTED:
         return number, 0
-    best = best_totals(entries)
+    best = known_best(tuple(entries))
     working[:len(best)] = best
     if best[-1] <= entries[-1]:
         return ACCEPTED, 0
@@ -289,24 +301,38 @@ def numbers_of(value):
     return [number_of(value[i:i + 4]) for i in range(0, len(value), 4)]
 
 
-def tag_in_place(before, tag):
-    """Jobs: tag may follow this many fields; refusal 14 if not."""
-    if before < 3:
-        return tag == (KIND, CAPACITY, SIZES)[before]
-    return tag in (FAMILY_STEP, TABLE_STEP) and before < 3 + 8
+def has_rows(fields):
+    """02, ticket 1: the kind byte is 3, so rows stand in the place of tags 2 and 3."""
+    return len(fields) > 0 and number_of(fields[0][1]) == ROWS
+
+
+def may_end(fields):
+    """Jobs: these fields can be a whole job; refusal 14 if not."""
+    return has_rows(fields) or len(fields) >= 3
+
+
+def tag_in_place(fields, tag):
+    """Jobs; 02, ticket 1: tag may follow these fields; refusal 14 if not."""
+    if tag in STEPS:
+        return may_end(fields) and len(steps_of(fields)) < MOST_STEPS
+    if has_rows(fields):
+        return tag == ROW and fields[-1][0] in (KIND, ROW)
+    return len(fields) < 3 and tag == (KIND, CAPACITY, SIZES)[len(fields)]
 
 
 def length_right(tag, length):
-    """Jobs: the lengths of the tags; refusal 15 if wrong."""
+    """Jobs; 02, ticket 1: the lengths of the tags; refusal 15 if wrong."""
     if tag == KIND:
         return length == 1
     if tag == CAPACITY:
         return length == 4
     if tag == SIZES:
-        return length % 4 == 0 and length <= 4 * 2048
+        return length % 4 == 0 and length <= 4 * MOST_SIZES
     if tag == FAMILY_STEP:
         return length == 9
-    return 8 <= length <= 8192 and length % 4 == 0
+    if tag == ROW:
+        return length % 4 == 0 and length >= 4
+    return 8 <= length <= 4 * MOST_ENTRIES and length % 4 == 0
 
 
 def read_fields(data):
@@ -319,15 +345,25 @@ def read_fields(data):
         tag, length = rest[0], number_of(rest[1:3])
         if len(rest) < 3 + length:
             return PAST_THE_END, []
-        if not tag_in_place(len(fields), tag):
+        if not tag_in_place(fields, tag):
             return BAD_TAG, []
         if not length_right(tag, length):
             return BAD_LENGTH, []
         fields.append((tag, rest[3:3 + length]))
         rest = rest[3 + length:]
-    if len(fields) < 3:
+    if not may_end(fields):
         return BAD_TAG, []
     return ACCEPTED, fields
+
+
+def steps_of(fields):
+    """Jobs: the fields that are steps, in order."""
+    return [field for field in fields if field[0] in STEPS]
+
+
+def rows_of(fields):
+    """02, ticket 1: each row's numbers, its right side first."""
+    return [numbers_of(value) for tag, value in fields if tag == ROW]
 
 
 # 01, Jobs: the steps. Each gives (number, length, images, scale).
@@ -364,9 +400,7 @@ def take_step(field, capacity, images, working, lst):
 # 01, Operations: Job
 
 def list_refusal(kind, capacity, sizes):
-    """Operations, Job: refusals 16, 1 and 17, or 0."""
-    if kind not in (FLOOR, CUT):
-        return BAD_KIND
+    """Operations, Job: refusals 1 and 17, or 0."""
     if capacity_refused(capacity):
         return BAD_CAPACITY
     if any(size > capacity or (size == 0 and kind == FLOOR) for size in sizes):
@@ -374,18 +408,26 @@ def list_refusal(kind, capacity, sizes):
     return ACCEPTED
 
 
-def early_job_refusal(data, images, working, lst):
-    """Operations, Job: refusals 12 and 7, or 0."""
-    if len(data) > 65535:
+def rows_refused(rows):
+    """02, ticket 1: refusal 21."""
+    coefficients = sum(len(row) - 1 for row in rows)
+    return not 1 <= len(rows) <= MOST_ROWS or coefficients > MOST_SIZES
+
+
+def early_job_refusal(data, images, working, lst, scales):
+    """Operations, Job; 02, ticket 1: refusals 12 and 7, or 0."""
+    if len(data) > MOST_JOB_BYTES:
         return JOB_TOO_LONG
-    if len(images) < 2048 or len(working) < 2048 or len(lst) < 2047:
+    if len(images) < JOB_IMAGES or len(working) < JOB_WORKING:
+        return SHORT_BUFFER
+    if len(lst) < JOB_LIST or len(scales) < JOB_SCALES:
         return SHORT_BUFFER
     return ACCEPTED
 
 
-def refused(number, step=0, length=0):
+def refused(number, step=0, length=0, row=0):
     """Operations: a refused job's answer."""
-    return number, 0, 0, 0, 0, step, length
+    return number, 0, 0, 0, 0, step, length, row
 
 
 def floor_of(total, scale):
@@ -394,32 +436,68 @@ def floor_of(total, scale):
 
 
 def accepted(kind, present, scale):
-    """Operations, Job: an accepted job's answer."""
+    """Operations, Job: an accepted job's answer, of kind 1 or 2."""
     if kind == CUT:
-        return ACCEPTED, len(present), 0, 0, scale, 0, 0
+        return ACCEPTED, len(present), 0, 0, scale, 0, 0, 0
     total = sum(present)
-    return ACCEPTED, len(present), floor_of(total, scale), total, scale, 0, 0
+    return ACCEPTED, len(present), floor_of(total, scale), total, scale, 0, 0, 0
 
 
-def job(data, images, working, lst):
-    """Operations, Job -> (number, n, floor, sum, scale, step, length)."""
-    number = early_job_refusal(data, images, working, lst)
+def judge(kind, capacity, sizes, steps, working, lst):
+    """Operations, Job: a list or a row in full: refusals 1 and 17, then the
+    steps in order -> (number, step, length, images, scale)."""
+    number = list_refusal(kind, capacity, sizes)
+    if number != ACCEPTED:
+        return number, 0, 0, [], 0
+    present, scale = sizes, capacity
+    for place, field in enumerate(steps, start=1):
+        number, length, present, scale = take_step(field, scale, present, working, lst)
+        if number != ACCEPTED:
+            return number, place, length, [], 0
+    return ACCEPTED, 0, 0, present, scale
+
+
+def list_job(kind, fields, images, working, lst):
+    """Operations, Job: kinds 1 and 2, with their fields in order."""
+    capacity, sizes = number_of(fields[1][1]), numbers_of(fields[2][1])
+    number, step, length, present, scale = judge(kind, capacity, sizes, fields[3:], working, lst)
+    if number != ACCEPTED:
+        return refused(number, step, length)
+    images[:len(present)] = present
+    return accepted(kind, present, scale)
+
+
+def rows_job(fields, images, working, lst, scales):
+    """02, ticket 1: kind 3. Every row is judged in full before the next."""
+    rows, steps = rows_of(fields), steps_of(fields)
+    if rows_refused(rows):
+        return refused(BAD_ROWS)
+    all_images, all_scales = [], []
+    for place, (right, *coefficients) in enumerate(rows, start=1):
+        number, step, length, present, scale = judge(ROWS, right, coefficients, steps, working, lst)
+        if number != ACCEPTED:
+            return refused(number, step, length, place)
+        all_images += present
+        all_scales.append(scale)
+    images[:len(all_images)] = all_images
+    scales[:len(all_scales)] = all_scales
+    return ACCEPTED, len(all_images), 0, 0, 0, 0, 0, 0
+
+
+def job(data, images, working, lst, scales):
+    """Operations, Job -> (number, n, floor, sum, scale, step, length, row)."""
+    number = early_job_refusal(data, images, working, lst, scales)
     if number != ACCEPTED:
         return refused(number)
     number, fields = read_fields(data)
     if number != ACCEPTED:
         return refused(number)
-    kind, scale = number_of(fields[0][1]), number_of(fields[1][1])
-    present = numbers_of(fields[2][1])
-    number = list_refusal(kind, scale, present)
-    if number != ACCEPTED:
-        return refused(number)
-    for place, field in enumerate(fields[3:], start=1):
-        number, length, present, scale = take_step(field, scale, present, working, lst)
-        if number != ACCEPTED:
-            return refused(number, place, length)
-    images[:len(present)] = present
-    return accepted(kind, present, scale)
+    kind = number_of(fields[0][1])
+    if kind == ROWS:
+        return rows_job(fields, images, working, lst, scales)
+    if kind not in (FLOOR, CUT):
+        return refused(BAD_KIND)
+    return list_job(kind, fields, images, working, lst)
 
 
 # 01, Operations: Sweep
@@ -430,7 +508,7 @@ def sweep_refusal(capacity, family, sizes, low, high):
         return BAD_CAPACITY
     if not 1 <= family <= 5:
         return BAD_FAMILY
-    if len(sizes) > 2048:
+    if len(sizes) > MOST_SIZES:
         return BAD_COUNT
     if any(size == 0 or size > capacity for size in sizes):
         return BAD_SIZE
@@ -466,19 +544,48 @@ def line(word, values):
     return word + "".join(" %d" % value for value in values) + "\n"
 
 
+def refusal_text(data, number, row, step, listed):
+    """The hand-over program; 02, ticket 1: the row only if the fourth byte is 3."""
+    of_rows = len(data) >= 4 and data[3] == ROWS
+    text = line("refused", [number, row, step] if of_rows else [number, step])
+    if number == NOT_DUAL_FEASIBLE:
+        text += line("list", listed)
+    return text
+
+
+def cut_text(scale, images):
+    """The hand-over program: a strengthened row."""
+    return line("scale", [scale]) + line("images", images)
+
+
+def rows_text(data, images, scales):
+    """02, ticket 1: each row's lines, with as many images as coefficients."""
+    text, at = "", 0
+    for row, scale in zip(rows_of(read_fields(data)[1]), scales):
+        end = at + len(row) - 1
+        text += cut_text(scale, images[at:end])
+        at = end
+    return text
+
+
+def text_of(data):
+    """The hand-over program: its text for a job."""
+    images, working = [0] * JOB_IMAGES, [0] * JOB_WORKING
+    lst, scales = [0] * JOB_LIST, [0] * JOB_SCALES
+    number, n, floor, total, scale, step, length, row = job(data, images, working, lst, scales)
+    if number != ACCEPTED:
+        return refusal_text(data, number, row, step, lst[:length])
+    kind = data[3]  # an accepted job has its kind there
+    if kind == ROWS:
+        return rows_text(data, images, scales)
+    if kind == CUT:
+        return cut_text(scale, images[:n])
+    return line("floor", [floor]) + line("sum", [total]) + cut_text(scale, images[:n])
+
+
 def program(data):
     """The hand-over program: what it prints for a job."""
-    images, working, lst = [0] * 2048, [0] * 2048, [0] * 2047
-    number, n, floor, total, scale, step, length = job(data, images, working, lst)
-    if number != ACCEPTED:
-        text = line("refused", [number, step])
-        if number == NOT_DUAL_FEASIBLE:
-            text += line("list", lst[:length])
-        return text.encode()
-    text = line("scale", [scale]) + line("images", images[:n])
-    if data[3] == FLOOR:  # an accepted job has its kind there
-        text = line("floor", [floor]) + line("sum", [total]) + text
-    return text.encode()
+    return text_of(data).encode()
 
 
 if __name__ == "__main__":

@@ -34,10 +34,10 @@ def table(given):
 
 
 def job(given):
-    images, listed = lend(given, "images", 2048), lend(given, "list", 2047)
-    numbers = wf.job(given["job"], images, lend(given, "working", 2048, WIDE), listed)
-    answer = named("number n floor sum scale step length", numbers)
-    return answer | dict(images=changed(images), list=changed(listed))
+    images, listed, scales = lend(given, "images", 2048), lend(given, "list", 2047), lend(given, "scales", 64)
+    numbers = wf.job(given["job"], images, lend(given, "working", 2048, WIDE), listed, scales)
+    answer = named("number n floor sum scale step length row", numbers)
+    return answer | dict(images=changed(images), list=changed(listed), scales=changed(scales))
 
 
 def sweep(given):

@@ -19,6 +19,8 @@ the fields of a job."""
 
 from typing import Callable, NamedTuple, Optional
 
+import by_reference
+
 
 class Rule(NamedTuple):
     request: int
@@ -29,4 +31,17 @@ class Rule(NamedTuple):
     now: Optional[Callable] = None
 
 
-EXCEPTIONS = []
+def of_kind_3(given):
+    """The first field is tag 1, of length 1, with the value 3."""
+    return given["job"][:4] == b"\1\0\1\3"
+
+
+def fourth_byte_3(given):
+    return given["job"][3:4] == b"\3"
+
+
+EXCEPTIONS = [
+    Rule(1, ("job",), of_kind_3, "kind 3 is read by another grammar, as rows", now=by_reference.answer),
+    Rule(1, ("text",), fourth_byte_3, "a refusal prints the row too if the job's fourth byte is 3; no job with that "
+         "byte was accepted", now=by_reference.answer),
+]

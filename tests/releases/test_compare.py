@@ -11,13 +11,15 @@ from pathlib import Path
 
 sys.dont_write_bytecode = True
 from compare import compare
-from exceptions import Rule
+from exceptions import EXCEPTIONS, Rule
 from stored import LIST, pack_bytes, pack_numbers, unpack_bytes, unpack_numbers
 
 IMAGE = "capacity=10 family=1 p=3 q=0 x=8 -> number=0 image=10 scale=10"
 TABLE = "entries=0,1,1,2 working_places=6 -> number=11 length=3 working=0:0,1,2,3 list=0:1,1,1"
 JOB = ("job=01000101.0200040000000a.03000400000006 -> "
        "number=0 n=1 floor=1 sum=6 scale=10 step=0 length=0 images=0:6 list=same")
+ROWS = ("job=01000103.06000c0000000a0000000700000003.06000400000009 -> "
+        "number=0 n=2 floor=0 sum=0 scale=0 step=0 length=0 row=0 images=0:7,3 list=same scales=0:10,9")
 SWEEP = "capacity=10 family=1 sizes=6*3 low=0 high=5 -> number=0 floor=3 p=5"
 TEXT = "job= -> status=0 errors=0 text='refused 14 0\\n'"
 CASES = dict(image=IMAGE, table=TABLE, job=JOB, sweep=SWEEP, text=TEXT)
@@ -50,8 +52,16 @@ class Comparison(unittest.TestCase):
         self.assertTrue(passed, printed)
         self.assertIn(why, printed)
 
+    def assert_finds(self, operation, line, old, new, field):
+        """The comparison fails if a stored answer has other words."""
+        given, answer = line.split(" -> ")
+        changed = given + " -> " + answer.replace(old, new)
+        self.assertNotEqual(changed, line)
+        self.assert_fails(f"base/{operation}.txt, line 1: {field}", {operation: changed})
+
     def test_right_answers(self):
         self.assert_passes("base: 5 cases compared", CASES)
+        self.assert_passes("base: 1 cases compared", dict(job=ROWS))
 
     def test_changed_answers(self):
         for operation, old, new, field in (
@@ -63,10 +73,21 @@ class Comparison(unittest.TestCase):
                 ("job", "images=0:6", "images=same", "images"), ("job", "list=same", "list=2046:1", "list"),
                 ("text", "14 0\\n", "14 0", "text"), ("text", "status=0", "status=1", "status"),
                 ("text", "errors=0", "errors=2", "errors")):
-            line = CASES[operation].split(" -> ")
-            changed = line[0] + " -> " + line[1].replace(old, new)
-            self.assertNotEqual(changed, CASES[operation])
-            self.assert_fails(f"base/{operation}.txt, line 1: {field}", {operation: changed})
+            self.assert_finds(operation, CASES[operation], old, new, field)
+
+    def test_changed_answers_of_rows(self):
+        for old, new, field in (
+                ("row=0", "row=1", "row"), ("scale=0", "scale=9", "scale"), ("n=2", "n=1", "n"),
+                ("images=0:7,3", "images=0:7;2:3", "images"), ("scales=0:10,9", "scales=0:9,10", "scales"),
+                ("scales=0:10,9", "scales=0:10", "scales"), ("scales=0:10,9", "scales=0:10,9;63:1", "scales")):
+            self.assert_finds("job", ROWS, old, new, field)
+
+    def test_places_of_the_scales(self):
+        given, answer = ROWS.split(" -> ")
+        short = "number=7 n=0 floor=0 sum=0 scale=0 step=0 length=0 row=0 images=same list=same scales=same"
+        for places, due in ((63, short), (64, answer), (70, answer)):
+            self.assert_passes("1 cases compared", dict(job=f"{given} scales_places={places} -> {due}"))
+        self.assert_fails("number", dict(job=f"{given} scales_places=63 -> {answer}"))
 
     def test_files(self):
         for operation, line in CASES.items():
@@ -104,6 +125,22 @@ class Comparison(unittest.TestCase):
         changed = dict(image=IMAGE.replace("image=10", "image=8"))
         self.assert_passes("request 2: 1 cases", changed, [rule], release="request-1")
         self.assert_fails("line 1: image", changed, [rule], release="request-2")
+
+
+class Exceptions(unittest.TestCase):
+    def excepted(self, operation, data):
+        given = dict(job=bytes.fromhex(data))
+        return any(operation in rule.operations and rule.applies(given) for rule in EXCEPTIONS if rule.request == 1)
+
+    def test_request_1(self):
+        """Jobs by kind 3 in a first field of length 1, texts by the fourth byte."""
+        for data, of_jobs, of_texts in (
+                ("01000103", True, True), ("01000103 0600040000000a", True, True), ("01000101", False, False),
+                ("01000104", False, False), ("0100020303", False, True), ("02000103", False, True),
+                ("00000003", False, True), ("010001", False, False), ("030303", False, False), ("", False, False),
+                ("01000102 03000103", False, False)):
+            self.assertEqual(self.excepted("job", data), of_jobs, data)
+            self.assertEqual(self.excepted("text", data), of_texts, data)
 
 
 class StoredForm(unittest.TestCase):

@@ -9,11 +9,11 @@ use native.Mathlib.Numerals.{add-one}
 use native.Mathlib.Omega.{arith}
 use borrow.Author.Tests.{eqb-true, leb-true, eq-eqb, ne-eqb}
 use lib.Dec.{leb, eqb}
-use lib.ListN.{length, getD, take, drop, set, length-set, length-map, length-drop}
+use lib.ListN.{length, getD, take, drop, set, length-set, length-map, length-drop, length-append}
 use lib.Seq.{take-suc-set, getD-set-same, getD-set-other, length-take-le}
 use Rattle.tables.specs.Check.{mostEntries}
 use Rattle.fields.specs.Bytes.{word, words}
-use Rattle.fields.specs.Parts.{Field, fieldOf, valueOf, Step, onFamily, onTable, stepOf, jobKind, jobCapacity, jobSizes, jobSteps}
+use Rattle.fields.specs.Parts.{Field, fieldOf, valueOf, Step, onFamily, onTable, stepOf, Row, rowOf, jobKind, jobCapacity, jobSizes, jobSteps, jobRows, coefficientCount}
 use Rattle.fields.specs.Grammar.{mostSizes, mostSteps, lengthRight}
 use Rattle.fields.specs.Record.{spanBytes, SpanWithin, stepIn, stepsIn, familyStep, StepWithin, noStep, StepsWithin, PartsOf, NextField}
 use Rattle.fields.specs.declared.Span.{Span}
@@ -21,7 +21,7 @@ use Rattle.fields.specs.declared.JobStep.{JobStep}
 use Rattle.fields.specs.declared.JobSteps.{JobSteps}
 use Rattle.fields.specs.declared.JobParts.{JobParts}
 use Rattle.fields.proofs.Decoding.{words-length}
-use Rattle.fields.proofs.Following.{value-other, step-more, steps-kept, no-step}
+use Rattle.fields.proofs.Following.{value-other, step-more, steps-kept, no-step, row-more, rows-kept, row-tag-is, no-row}
 
 -- the lengths that a tag may have, as facts
 pub kind-length : (n : ℕ) → lengthRight 1 n ≡ true → n ≡ 1
@@ -42,6 +42,12 @@ pub family-length : (n : ℕ) → lengthRight 4 n ≡ true → n ≡ 9
 unfolding lengthRight
 family-length n e = eqb-true n 9 e
 
+pub row-length : (n : ℕ) → lengthRight 6 n ≡ true → (n % 4 ≡ 0) × (4 ≤ n)
+unfolding lengthRight
+row-length n e =
+    let parts = and-eq-true-iff (eqb (n % 4) 0) (leb 4 n) .0 e in
+    (eqb-true (n % 4) 0 (parts .0), leb-true 4 n (parts .1))
+
 pub table-length : (n : ℕ) → lengthRight 5 n ≡ true → (n % 4 ≡ 0) × (8 ≤ n) × (n ≤ 4 * mostEntries)
 unfolding lengthRight
 table-length n e =
@@ -52,6 +58,17 @@ table-length n e =
 pub span-length : (job : List ℕ) (s : Span) → SpanWithin job s → length (spanBytes job s) ≡ 4 * s .n
 unfolding spanBytes
 span-length job s within = length-take-le (4 * s .n) (drop (s .at) job) (omega (arith, length-drop (s .at) job))
+
+-- the coefficients of a row behind its right side
+pub row-count : (value : List ℕ) → lengthRight 6 (length value) ≡ true → length (words (drop 4 value)) ≡ length value / 4 - 1
+row-count value right =
+    let whole = row-length (length value) right in
+    words-length (length value / 4 - 1) (drop 4 value) (omega (arith, whole, length-drop 4 value))
+
+pub counts-more : (rows : List Row) (r : Row) → coefficientCount (rows ++ (r ∷ [])) ≡ coefficientCount rows + length (r .coefficients)
+unfolding coefficientCount
+counts-more [] r = omega arith
+counts-more (g ∷ rows) r = omega (arith, counts-more rows r)
 
 -- the step of a record by its tag
 module _ (job : List ℕ) (s : JobStep) where
@@ -104,10 +121,16 @@ module _ (job : List ℕ) (fields : List Field) (parts : JobParts) (h : PartsOf 
   unfolding jobSizes
   sizes-kept other = h .sizes-are ∙ ap words (sym (value-other f 3 fields other))
 
-  no-step-more : tag < 4 → stepsIn job (parts .steps) ≡ jobSteps (fields ++ (f ∷ []))
-  no-step-more l = h .steps-are ∙ sym (steps-kept f fields (no-step tag l))
+  no-step-more : (tag ≡ 4 → ⊥) → (tag ≡ 5 → ⊥) → stepsIn job (parts .steps) ≡ jobSteps (fields ++ (f ∷ []))
+  no-step-more four five = h .steps-are ∙ sym (steps-kept f fields (no-step tag four five))
 
-  pub with-kind : tag ≡ 1 → PartsOf job (fields ++ (f ∷ [])) (record { kind = getD value 0 0; capacity = parts .capacity; sizes = parts .sizes; steps = parts .steps })
+  rows-count-kept : (tag ≡ 6 → ⊥) → parts .rows ≡ length (jobRows (fields ++ (f ∷ [])))
+  rows-count-kept other = h .rows-count ∙ ap length (sym (rows-kept f fields (no-row tag other)))
+
+  coefficients-kept : (tag ≡ 6 → ⊥) → parts .coefficients ≡ coefficientCount (jobRows (fields ++ (f ∷ [])))
+  coefficients-kept other = h .coefficients-count ∙ ap coefficientCount (sym (rows-kept f fields (no-row tag other)))
+
+  pub with-kind : tag ≡ 1 → PartsOf job (fields ++ (f ∷ [])) (record { kind = getD value 0 0; capacity = parts .capacity; sizes = parts .sizes; steps = parts .steps; rows = parts .rows; coefficients = parts .coefficients })
   unfolding jobKind
   with-kind e =
       record {
@@ -116,11 +139,13 @@ module _ (job : List ℕ) (fields : List Field) (parts : JobParts) (h : PartsOf 
         sizes-are = sizes-kept (λ o. omega arith);
         sizes-within = h .sizes-within;
         sizes-most = h .sizes-most;
-        steps-are = no-step-more (omega arith);
+        steps-are = no-step-more (λ o. omega arith) (λ o. omega arith);
         steps-within = h .steps-within;
+        rows-count = rows-count-kept (λ o. omega arith);
+        coefficients-count = coefficients-kept (λ o. omega arith);
       }
 
-  pub with-capacity : tag ≡ 2 → (d : ℕ) → d ≡ word value 0 → PartsOf job (fields ++ (f ∷ [])) (record { kind = parts .kind; capacity = d; sizes = parts .sizes; steps = parts .steps })
+  pub with-capacity : tag ≡ 2 → (d : ℕ) → d ≡ word value 0 → PartsOf job (fields ++ (f ∷ [])) (record { kind = parts .kind; capacity = d; sizes = parts .sizes; steps = parts .steps; rows = parts .rows; coefficients = parts .coefficients })
   unfolding jobCapacity
   with-capacity e d is =
       record {
@@ -129,11 +154,13 @@ module _ (job : List ℕ) (fields : List Field) (parts : JobParts) (h : PartsOf 
         sizes-are = sizes-kept (λ o. omega arith);
         sizes-within = h .sizes-within;
         sizes-most = h .sizes-most;
-        steps-are = no-step-more (omega arith);
+        steps-are = no-step-more (λ o. omega arith) (λ o. omega arith);
         steps-within = h .steps-within;
+        rows-count = rows-count-kept (λ o. omega arith);
+        coefficients-count = coefficients-kept (λ o. omega arith);
       }
 
-  pub with-sizes : tag ≡ 3 → PartsOf job (fields ++ (f ∷ [])) (record { kind = parts .kind; capacity = parts .capacity; sizes = value-span; steps = parts .steps })
+  pub with-sizes : tag ≡ 3 → PartsOf job (fields ++ (f ∷ [])) (record { kind = parts .kind; capacity = parts .capacity; sizes = value-span; steps = parts .steps; rows = parts .rows; coefficients = parts .coefficients })
   unfolding jobSizes
   with-sizes e =
       let right = sizes-length (length value) (rw e at (n .length-right)) in
@@ -143,11 +170,30 @@ module _ (job : List ℕ) (fields : List Field) (parts : JobParts) (h : PartsOf 
         sizes-are = ap words (span-is (right .0) ∙ sym (n .new (omega arith)) ∙ ap (λ (t : ℕ). valueOf t (fields ++ (f ∷ []))) e);
         sizes-within = span-within;
         sizes-most = omega (arith, right .1);
-        steps-are = no-step-more (omega arith);
+        steps-are = no-step-more (λ o. omega arith) (λ o. omega arith);
         steps-within = h .steps-within;
+        rows-count = rows-count-kept (λ o. omega arith);
+        coefficients-count = coefficients-kept (λ o. omega arith);
       }
 
-  module _ (step : 4 ≤ tag) (s : JobStep) (same : stepIn job s ≡ stepOf f) (within : StepWithin job s) (room : parts .steps .count < mostSteps) where
+  pub with-row : tag ≡ 6 → PartsOf job (fields ++ (f ∷ [])) (record { kind = parts .kind; capacity = parts .capacity; sizes = parts .sizes; steps = parts .steps; rows = parts .rows + 1; coefficients = parts .coefficients + (length value / 4 - 1) })
+  unfolding rowOf
+  with-row e =
+      let more = row-more f fields (row-tag-is tag e) in
+      let count = row-count value (rw e at (n .length-right)) in
+      record {
+        kind-is = kind-kept (λ o. omega arith);
+        capacity-is = capacity-kept (λ o. omega arith);
+        sizes-are = sizes-kept (λ o. omega arith);
+        sizes-within = h .sizes-within;
+        sizes-most = h .sizes-most;
+        steps-are = no-step-more (λ o. omega arith) (λ o. omega arith);
+        steps-within = h .steps-within;
+        rows-count = rw more (omega (arith, h .rows-count, length-append (jobRows fields) (rowOf f ∷ [])));
+        coefficients-count = rw more (omega (arith, h .coefficients-count, counts-more (jobRows fields) (rowOf f), count));
+      }
+
+  module _ (step : 4 ≤ tag) (other : tag ≡ 6 → ⊥) (s : JobStep) (same : stepIn job s ≡ stepOf f) (within : StepWithin job s) (room : parts .steps .count < mostSteps) where
     inside : parts .steps .count < length (parts .steps .items)
     inside = omega (arith, h .steps-within .places)
 
@@ -170,7 +216,7 @@ module _ (job : List ℕ) (fields : List Field) (parts : JobParts) (h : PartsOf 
     earlier : (i : ℕ) → i < parts .steps .count → StepWithin job (getD (steps′ .items) i noStep)
     earlier i l = rw (getD-set-other (parts .steps .items) (parts .steps .count) i s noStep (omega arith)) (h .steps-within .each i l)
 
-    pub with-step : PartsOf job (fields ++ (f ∷ [])) (record { kind = parts .kind; capacity = parts .capacity; sizes = parts .sizes; steps = steps′ })
+    pub with-step : PartsOf job (fields ++ (f ∷ [])) (record { kind = parts .kind; capacity = parts .capacity; sizes = parts .sizes; steps = steps′; rows = parts .rows; coefficients = parts .coefficients })
     with-step =
         record {
           kind-is = kind-kept (λ o. omega arith);
@@ -178,13 +224,15 @@ module _ (job : List ℕ) (fields : List Field) (parts : JobParts) (h : PartsOf 
           sizes-are = sizes-kept (λ o. omega arith);
           sizes-within = h .sizes-within;
           sizes-most = h .sizes-most;
-          steps-are = one-more ∙ ap (λ (l : List Step). l ++ (stepOf f ∷ [])) (h .steps-are) ∙ sym (step-more f fields (n .step-tag step));
+          steps-are = one-more ∙ ap (λ (l : List Step). l ++ (stepOf f ∷ [])) (h .steps-are) ∙ sym (step-more f fields (n .step-tag step other));
           steps-within =
               record {
                 places = length-set (parts .steps .items) (parts .steps .count) s ∙ h .steps-within .places;
                 most = omega arith;
                 each = λ i l. ⊎-elim (λ e. last i e) (λ k. earlier i (omega arith)) (eq-or-lt-of-le l);
               };
+          rows-count = rows-count-kept other;
+          coefficients-count = coefficients-kept other;
         }
 
   pub family-same : tag ≡ 4 → stepIn job (familyStep value) ≡ stepOf f

@@ -1,15 +1,15 @@
 -- Fields one behind the other: what the parts by tag gain from one more field, and which tags may follow.
-use mathlib.Core.Path.{_≡_, refl, ap}
+use mathlib.Core.Path.{_≡_, refl, ap, _∙_}
 use mathlib.Core.Bool.{Bool, true, false, cond, not, _||_, and-eq-true-iff}
-use mathlib.Core.List.{List, [], _∷_, _++_}
+use mathlib.Core.List.{List, [], _∷_, _++_, map, map-append}
 use mathlib.Core.Logic.{_⊎_, inl, inr, ⊎-elim}
 use Prim.Native.Nat.{ℕ, suc, _+_, _≤_, _<_}
 use native.Mathlib.Omega.{arith}
 use borrow.Author.Tests.{eqb-true, ltb-true, eq-eqb, ne-eqb, not-false}
 use lib.Dec.{ltb, eqb}
 use Rattle.functions.proofs.Cases.{lt-or-ge, not-refused}
-use Rattle.fields.specs.Parts.{Field, valueOf, isStep, stepOf, Step, jobSteps, lastTagFrom, lastTag}
-use Rattle.fields.specs.Grammar.{mostSteps, mayFollow, lengthRight}
+use Rattle.fields.specs.Parts.{Field, valueOf, isStep, stepOf, chosen, jobSteps, rowOf, isRow, jobRows, lastTagFrom, lastTag}
+use Rattle.fields.specs.Grammar.{mostSteps, rowsKind, stepFollows, rowFollows, mayFollow, lengthRight}
 use Rattle.fields.specs.Reading.{headerRefusal}
 use Rattle.fields.specs.declared.Header.{Header}
 
@@ -34,19 +34,37 @@ module _ (f : Field) where
   value-other t [] other = rw (ne-eqb (f .tag) t other)
   value-other t (g ∷ fields) other = ap (λ (v : List ℕ). cond (eqb (g .tag) t) (g .value) v) (value-other t fields other)
 
+  -- one more of the fields whose tag passes a test, or none
+  module _ (test : ℕ → Bool) where
+    chosen-more : (fields : List Field) → test (f .tag) ≡ true → chosen test (fields ++ (f ∷ [])) ≡ chosen test fields ++ (f ∷ [])
+    unfolding chosen
+    chosen-more [] is = rw is
+    chosen-more (g ∷ fields) is = go (test (g .tag)) (chosen-more fields is)
+      where
+        go : (t : Bool) → chosen test (fields ++ (f ∷ [])) ≡ chosen test fields ++ (f ∷ []) → cond t (g ∷ chosen test (fields ++ (f ∷ []))) (chosen test (fields ++ (f ∷ []))) ≡ cond t (g ∷ chosen test fields) (chosen test fields) ++ (f ∷ [])
+        go true e = ap (λ (l : List Field). g ∷ l) e
+        go false e = e
+
+    chosen-kept : (fields : List Field) → test (f .tag) ≡ false → chosen test (fields ++ (f ∷ [])) ≡ chosen test fields
+    unfolding chosen
+    chosen-kept [] is = rw is
+    chosen-kept (g ∷ fields) is = ap (λ (l : List Field). cond (test (g .tag)) (g ∷ l) l) (chosen-kept fields is)
+
   pub step-more : (fields : List Field) → isStep (f .tag) ≡ true → jobSteps (fields ++ (f ∷ [])) ≡ jobSteps fields ++ (stepOf f ∷ [])
   unfolding jobSteps
-  step-more [] is = rw is
-  step-more (g ∷ fields) is = go (isStep (g .tag)) (step-more fields is)
-    where
-      go : (test : Bool) → jobSteps (fields ++ (f ∷ [])) ≡ jobSteps fields ++ (stepOf f ∷ []) → cond test (stepOf g ∷ jobSteps (fields ++ (f ∷ []))) (jobSteps (fields ++ (f ∷ []))) ≡ cond test (stepOf g ∷ jobSteps fields) (jobSteps fields) ++ (stepOf f ∷ [])
-      go true e = ap (λ (l : List Step). stepOf g ∷ l) e
-      go false e = e
+  step-more fields is = ap (map stepOf) (chosen-more isStep fields is) ∙ map-append stepOf (chosen isStep fields) (f ∷ [])
 
   pub steps-kept : (fields : List Field) → isStep (f .tag) ≡ false → jobSteps (fields ++ (f ∷ [])) ≡ jobSteps fields
   unfolding jobSteps
-  steps-kept [] is = rw is
-  steps-kept (g ∷ fields) is = ap (λ (l : List Step). cond (isStep (g .tag)) (stepOf g ∷ l) l) (steps-kept fields is)
+  steps-kept fields is = ap (map stepOf) (chosen-kept isStep fields is)
+
+  pub row-more : (fields : List Field) → isRow (f .tag) ≡ true → jobRows (fields ++ (f ∷ [])) ≡ jobRows fields ++ (rowOf f ∷ [])
+  unfolding jobRows
+  row-more fields is = ap (map rowOf) (chosen-more isRow fields is) ∙ map-append rowOf (chosen isRow fields) (f ∷ [])
+
+  pub rows-kept : (fields : List Field) → isRow (f .tag) ≡ false → jobRows (fields ++ (f ∷ [])) ≡ jobRows fields
+  unfolding jobRows
+  rows-kept fields is = ap (map rowOf) (chosen-kept isRow fields is)
 
   last-from : (t : ℕ) (fields : List Field) → lastTagFrom t (fields ++ (f ∷ [])) ≡ f .tag
   unfolding lastTagFrom
@@ -103,32 +121,66 @@ step-tags tag is = go (eqb tag 4) refl is
 pub table-tag : (tag : ℕ) → isStep tag ≡ true → (tag ≡ 4 → ⊥) → tag ≡ 5
 table-tag tag is other = ⊎-elim (λ e. absurd (other e)) (λ e. e) (step-tags tag is)
 
-pub no-step : (tag : ℕ) → tag < 4 → isStep tag ≡ false
+pub no-step : (tag : ℕ) → (tag ≡ 4 → ⊥) → (tag ≡ 5 → ⊥) → isStep tag ≡ false
 unfolding isStep
-no-step tag l = rw (ne-eqb tag 4 (omega arith), ne-eqb tag 5 (omega arith))
+no-step tag four five = rw (ne-eqb tag 4 four, ne-eqb tag 5 five)
 
--- the next of tags 1, 2 and 3, or a step behind tag 3
-pub record StepFollows (last steps tag : ℕ) : Type 0 where
-  pub behind : 3 ≤ last
-  pub is-step : isStep tag ≡ true
-  pub room : steps < mostSteps
+pub row-tag-is : (tag : ℕ) → tag ≡ 6 → isRow tag ≡ true
+unfolding isRow
+row-tag-is tag e = eq-eqb tag 6 e
 
-pub follows : (kind last steps tag : ℕ) → mayFollow kind last steps tag ≡ true → ((tag ≡ suc last) × (last < 3)) ⊎ StepFollows last steps tag
-unfolding mayFollow
-follows kind last steps tag e = go (lt-or-ge last 1) (lt-or-ge last 2) (lt-or-ge last 3)
-  where
-    -- the last tag is known
-    next : (n : ℕ) → last ≡ n → n < 3 → eqb tag (suc n) ≡ true → ((tag ≡ suc last) × (last < 3)) ⊎ StepFollows last steps tag
-    next n is l same = inl (omega (arith, is, eqb-true tag (suc n) same), omega arith)
+pub tag-is-six : (tag : ℕ) → isRow tag ≡ true → tag ≡ 6
+unfolding isRow
+tag-is-six tag e = eqb-true tag 6 e
 
-    go : (last < 1) ⊎ (1 ≤ last) → (last < 2) ⊎ (2 ≤ last) → (last < 3) ⊎ (3 ≤ last) → ((tag ≡ suc last) × (last < 3)) ⊎ StepFollows last steps tag
-    go (inl l) b d = next 0 (omega arith) (omega arith) (rw (eq-eqb last 0 (omega arith)) at e)
-    go (inr a) (inl l) d = next 1 (omega arith) (omega arith) (rw (ne-eqb last 0 (omega arith), eq-eqb last 1 (omega arith)) at e)
-    go (inr a) (inr b) (inl l) =
-        next 2 (omega arith) (omega arith) (rw (ne-eqb last 0 (omega arith), ne-eqb last 1 (omega arith), eq-eqb last 2 (omega arith)) at e)
-    go (inr a) (inr b) (inr l) =
-        let parts = and-eq-true-iff (isStep tag) (ltb steps mostSteps) .0 (rw (ne-eqb last 0 (omega arith), ne-eqb last 1 (omega arith), ne-eqb last 2 (omega arith)) at e) in
-        inr (record { behind = l; is-step = parts .0; room = ltb-true steps mostSteps (parts .1) })
+pub no-row : (tag : ℕ) → (tag ≡ 6 → ⊥) → isRow tag ≡ false
+unfolding isRow
+no-row tag e = ne-eqb tag 6 e
+
+-- a tag that may follow: the next of 1, 2 and 3, a row, or a step behind fewer than eight
+pub record Followed (last steps tag : ℕ) : Type 0 where
+  pub known : 1 ≤ tag
+  pub low : tag < 4 → tag ≡ suc last
+  pub step : 4 ≤ tag → (tag ≡ 6 → ⊥) → (isStep tag ≡ true) × (steps < mostSteps)
+
+module _ (last steps tag : ℕ) where
+  next-tag : tag ≡ suc last → last < 3 → Followed last steps tag
+  next-tag e l = record { known = omega arith; low = λ _. e; step = λ m _. absurd (omega arith) }
+
+  step-tag : stepFollows steps tag ≡ true → Followed last steps tag
+  unfolding stepFollows
+  step-tag e =
+      let parts = and-eq-true-iff (isStep tag) (ltb steps mostSteps) .0 e in
+      let least : 4 ≤ tag = ⊎-elim (λ four. omega arith) (λ five. omega arith) (step-tags tag (parts .0)) in
+      record { known = omega arith; low = λ l. absurd (omega arith); step = λ _ _. (parts .0, ltb-true steps mostSteps (parts .1)) }
+
+  row-tag : rowFollows last tag ≡ true → Followed last steps tag
+  unfolding rowFollows
+  row-tag e =
+      let six = tag-is-six tag (and-eq-true-iff (not (isStep last)) (isRow tag) .0 e .1) in
+      record { known = omega arith; low = λ l. absurd (omega arith); step = λ _ other. absurd (other six) }
+
+  row-or-step : (test : Bool) → rowFollows last tag ≡ test → (test || stepFollows steps tag) ≡ true → Followed last steps tag
+  row-or-step true row e = row-tag row
+  row-or-step false row e = step-tag e
+
+  -- behind tag 1, by the kind
+  behind-first : (test : Bool) → (last < 1 → ⊥) → cond test (rowFollows last tag || stepFollows steps tag) (cond (eqb last 1) (eqb tag 2) (cond (eqb last 2) (eqb tag 3) (stepFollows steps tag))) ≡ true → Followed last steps tag
+  behind-first true some e = row-or-step (rowFollows last tag) refl e
+  behind-first false some e = go (lt-or-ge last 2) (lt-or-ge last 3)
+    where
+      go : (last < 2) ⊎ (2 ≤ last) → (last < 3) ⊎ (3 ≤ last) → Followed last steps tag
+      go (inl l) d = next-tag (omega (arith, eqb-true tag 2 (rw (eq-eqb last 1 (omega arith)) at e))) (omega arith)
+      go (inr a) (inl l) = next-tag (omega (arith, eqb-true tag 3 (rw (ne-eqb last 1 (omega arith), eq-eqb last 2 (omega arith)) at e))) (omega arith)
+      go (inr a) (inr l) = step-tag (rw (ne-eqb last 1 (omega arith), ne-eqb last 2 (omega arith)) at e)
+
+  pub follows : (kind : ℕ) → mayFollow kind last steps tag ≡ true → Followed last steps tag
+  unfolding mayFollow
+  follows kind e =
+      ⊎-elim
+      (λ l. next-tag (omega (arith, eqb-true tag 1 (rw (eq-eqb last 0 (omega arith)) at e))) (omega arith))
+      (λ m. behind-first (eqb kind rowsKind) (λ l. omega arith) (rw (ne-eqb last 0 (omega arith)) at e))
+      (lt-or-ge last 1)
 
 -- tags 1, 2 and 3 that are behind the last one have not come yet
 pub record Ordered (fields : List Field) : Type 0 where
@@ -139,16 +191,16 @@ unfolding Absent
 ordered-none = record { absent = λ t l m. tt }
 
 module _ (fields : List Field) (f : Field) (kind steps : ℕ) (o : Ordered fields) (may : mayFollow kind (lastTag fields) steps (f .tag) ≡ true) where
+  followed : Followed (lastTag fields) steps (f .tag)
+  followed = follows (lastTag fields) steps (f .tag) kind may
+
   pub follows-new : f .tag < 4 → Absent (f .tag) fields
-  follows-new l = ⊎-elim (λ next. o .absent (f .tag) (omega (arith, next .0)) l) (λ step. absurd (⊎-elim (λ e. omega arith) (λ e. omega arith) (step-tags (f .tag) (step .is-step)))) (follows kind (lastTag fields) steps (f .tag) may)
+  follows-new l = o .absent (f .tag) (omega (arith, followed .low l)) l
 
   pub ordered-more : Ordered (fields ++ (f ∷ []))
   ordered-more =
       record {
         absent = λ t l m.
             let behind : f .tag < t = omega (arith, last-more f fields) in
-            ⊎-elim
-            (λ next. absent-more f t fields (o .absent t (omega (arith, next .0)) m) (λ same. omega arith))
-            (λ step. absurd (⊎-elim (λ e. omega arith) (λ e. omega arith) (step-tags (f .tag) (step .is-step))))
-            (follows kind (lastTag fields) steps (f .tag) may);
+            absent-more f t fields (o .absent t (omega (arith, followed .low (omega arith))) m) (λ same. omega arith);
       }

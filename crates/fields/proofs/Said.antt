@@ -105,7 +105,7 @@ pub record KindRead (job : List ℕ) : Type 0 where
 -- the first field of a complete job is its kind
 module _ (job : List ℕ) (fields : List Field) (whole : jobFields job ≡ complete fields) where
   not-empty : length job ≡ 0 → ⊥
-  unfolding jobFields mayEnd lastTag lastTagFrom
+  unfolding jobFields mayEnd jobKind valueOf lastTag lastTagFrom
   not-empty none =
       let early = sym (turn-end (length job) [] job none) ∙ whole in
       let never : _≡_ {A = ℕ} 0 1 = cc in

@@ -3,7 +3,8 @@ use mathlib.Core.Path.{_≡_, refl, ap, sym, _∙_}
 use mathlib.Core.Bool.{true, false}
 use mathlib.Core.List.{List, [], _∷_, _++_}
 use mathlib.Core.Logic.{_⊎_, ⊎-elim}
-use Prim.Native.Nat.{ℕ, zero, suc, _+_, _-_, _≤_, _<_}
+use Prim.Native.Nat.{ℕ, zero, suc, _+_, _-_, _^_, _≤_, _<_}
+use native.Mathlib.Nat.{eq-zero-or-pos}
 use native.Mathlib.Omega.{arith}
 use borrow.Author.Tests.{eq-eqb, ne-eqb}
 use lib.ListN.{length, take, drop, length-drop}
@@ -12,12 +13,13 @@ use Rattle.fields.specs.Bytes.{headerBytes, fieldTag, fieldLength, field
 use Rattle.fields.specs.Parts.{Field, fieldOf, lastTag, lastTagFrom}
 use Rattle.fields.specs.Grammar.{mayFollow, mayEnd, lengthRight}
 use Rattle.fields.specs.Reading.{headerRefusal, fieldRefusal, firstField, refused, complete, readFields, jobFields, fieldsOf}
-use Rattle.fields.specs.Record.{PartsOf, NextField, Fillable, Filled, JobReading}
+use Rattle.fields.specs.Record.{PartsOf, NextField, Fillable, Filled, Stand, JobReading}
 use Rattle.fields.specs.declared.JobParts.{JobParts}
 use Rattle.fields.specs.declared.JobRead.{JobRead}
 use Rattle.fields.proofs.Headers.{header-within, within-facts, header-is, value-is, value-length, rest-is}
-use Rattle.fields.proofs.Following.{value-new, last-more, Passed, passed, follows, step-tags, Ordered, ordered-none, ordered-more, follows-new}
+use Rattle.fields.proofs.Following.{value-new, last-more, Passed, passed, follows, Followed, Ordered, ordered-none, ordered-more, follows-new}
 use Rattle.fields.proofs.Filling.{steps-count}
+use Rattle.fields.proofs.Standing.{stand-more, rows-within}
 
 -- `done` are the fields read so far; they end at a place of the job, and `fuel` more can be read there
 pub record SoFar (job : List ℕ) (parts : JobParts) (last at : ℕ) : Type 0 where
@@ -29,11 +31,12 @@ pub record SoFar (job : List ℕ) (parts : JobParts) (last at : ℕ) : Type 0 wh
   pub parts-are : PartsOf job done parts
   pub last-is : last ≡ lastTag done
   pub ordered : Ordered done
+  pub stand : Stand job 0 done at
 
 pub so-far-start : (job : List ℕ) (parts : JobParts) → PartsOf job [] parts → SoFar job parts 0 0
-unfolding jobFields lastTag lastTagFrom
+unfolding jobFields lastTag lastTagFrom Stand
 so-far-start job parts h =
-    record { done = []; fuel = length job; enough = omega arith; place = omega arith; reading = refl; parts-are = h; last-is = refl; ordered = ordered-none }
+    record { done = []; fuel = length job; enough = omega arith; place = omega arith; reading = refl; parts-are = h; last-is = refl; ordered = ordered-none; stand = refl }
 
 module _ (job : List ℕ) (parts : JobParts) (last at : ℕ) (s : SoFar job parts last at) where
   -- the number that the code finds is that of the definition
@@ -88,13 +91,17 @@ module _ (job : List ℕ) (parts : JobParts) (last at : ℕ) (s : SoFar job part
       follow-done : mayFollow (parts .kind) (lastTag (s .done)) (parts .steps .count) tag ≡ true
       follow-done = rw (s .last-is) at (pass .follows)
 
-      pub fillable : Fillable parts tag (length (fieldValue rest))
-      fillable =
+      followed : Followed last (parts .steps .count) tag
+      followed = follows _ _ _ _ (pass .follows)
+
+      pub fillable : length job < 2 ^ 64 → Fillable parts tag (length (fieldValue rest))
+      fillable short =
           record {
-            known = ⊎-elim (λ next. omega (arith, next .0)) (λ step. ⊎-elim (λ e. omega arith) (λ e. omega arith) (step-tags tag (step .is-step))) (follows _ _ _ _ (pass .follows));
+            known = followed .known;
             length-right = right;
             places = s .parts-are .steps-within .places;
-            room = λ l. ⊎-elim (λ next. absurd (omega (arith, next))) (λ step. step .room) (follows _ _ _ _ (pass .follows));
+            room = λ l other. followed .step l other .1;
+            countable = omega (arith, value-end, rows-within job 0 (s .done) at (s .stand), s .parts-are .rows-count, s .parts-are .coefficients-count);
           }
 
       value-at : fieldValue rest ≡ take (length (fieldValue rest)) (drop (at + headerBytes) job)
@@ -109,7 +116,7 @@ module _ (job : List ℕ) (parts : JobParts) (last at : ℕ) (s : SoFar job part
             value-at = value-at;
             value-within = value-end;
             length-right = right;
-            step-tag = λ l. ⊎-elim (λ next. absurd (omega (arith, next))) (λ step. step .is-step) (follows _ _ _ _ (pass .follows));
+            step-tag = λ l other. followed .step l other .0;
             new = λ l. value-new next tag (s .done) (follows-new (s .done) next _ _ (s .ordered) follow-done l) refl;
           }
 
@@ -136,6 +143,7 @@ module _ (job : List ℕ) (parts : JobParts) (last at : ℕ) (s : SoFar job part
                 parts-are = filled job (s .done) (s .parts-are) next-field;
                 last-is = sym (last-more next (s .done));
                 ordered = ordered-more (s .done) next _ _ (s .ordered) follow-done;
+                stand = stand-more job 0 (s .done) at next (s .stand) (record { within = within; is-first = sym first-is; length-right = right });
               }
 
   module _ (over : length job ≤ at) where
@@ -147,6 +155,9 @@ module _ (job : List ℕ) (parts : JobParts) (last at : ℕ) (s : SoFar job part
     ends-early may =
         s .reading ∙ rw (eq-eqb (length (drop at job)) 0 none-left, ← s .parts-are .kind-is, ← s .last-is, may)
 
+    at-end : at ≡ length job
+    at-end = omega (arith, s .place)
+
     ends : mayEnd (parts .kind) last ≡ true → jobFields job ≡ complete (s .done)
     unfolding readFields
     ends may = s .reading ∙ rw (eq-eqb (length (drop at job)) 0 none-left, ← s .parts-are .kind-is, ← s .last-is, may)
@@ -155,9 +166,19 @@ module _ (job : List ℕ) (parts : JobParts) (last at : ℕ) (s : SoFar job part
     unfolding fieldsOf
     job-read may =
         let e = ends may in
-        record { refused-as = λ some. absurd (some refl); complete-as = λ _. e ∙ sym (ap (λ r. complete (fieldsOf r)) e); parts-are = λ _. rw e (s .parts-are) }
+        record { refused-as = λ some. absurd (some refl); complete-as = λ _. e ∙ sym (ap (λ r. complete (fieldsOf r)) e); parts-are = λ _. rw e (s .parts-are); stand = λ _. rw (e, sym at-end) (s .stand) }
 
 -- a job whose field is refused
 pub job-unread : (job : List ℕ) (r : JobRead) (n : ℕ) → r .number ≡ n → (n ≡ 0 → ⊥) → jobFields job ≡ refused n → JobReading job r
 job-unread job r n is some e =
-    record { refused-as = λ _. e ∙ ap refused (sym is); complete-as = λ none. absurd (some (sym is ∙ none)); parts-are = λ none. absurd (some (sym is ∙ none)) }
+    record { refused-as = λ _. e ∙ ap refused (sym is); complete-as = λ none. absurd (some (sym is ∙ none)); parts-are = λ none. absurd (some (sym is ∙ none)); stand = λ none. absurd (some (sym is ∙ none)) }
+
+-- a job that is complete is read without a refusal
+pub complete-read : (job : List ℕ) (r : JobRead) (fields : List Field) → JobReading job r → jobFields job ≡ complete fields → r .number ≡ 0
+complete-read job r fields reading whole = ⊎-elim (λ none. none) (λ some. absurd (stop (omega arith))) (eq-zero-or-pos (r .number))
+  where
+    stop : (r .number ≡ 0 → ⊥) → ⊥
+    stop some =
+        let stopped = sym (reading .refused-as some) ∙ whole in
+        let never : _≡_ {A = ℕ} 0 1 = cc in
+        omega arith

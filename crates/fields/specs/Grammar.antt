@@ -1,37 +1,53 @@
--- The grammar of a job, document 01, "Jobs": which tag may follow the last one, where a job may end, and which lengths a tag may have.
-use mathlib.Core.Bool.{Bool, cond, _&&_}
+-- The grammar of a job, document 01, "Jobs", and document 02, request 1: which tag may follow the last one, where a job may end, and which lengths a tag may have.
+use mathlib.Core.Bool.{Bool, cond, not, _&&_, _||_}
 use Prim.Native.Nat.{ℕ, _*_, _%_}
 use lib.Dec.{leb, ltb, eqb}
 use Rattle.tables.specs.Check.{mostEntries}
-use Rattle.fields.specs.Parts.{isStep}
+use Rattle.fields.specs.Parts.{isStep, isRow}
 
--- the most bytes, sizes and steps of a job
+-- the most bytes, sizes (in kind 3 coefficients of all rows), rows and steps of a job
 abbrev pub mostBytes : ℕ
 mostBytes = 65_535
 
 abbrev pub mostSizes : ℕ
 mostSizes = 2_048
 
+abbrev pub mostRows : ℕ
+mostRows = 64
+
 abbrev pub mostSteps : ℕ
 mostSteps = 8
 
--- by the kind byte, the last tag (0 before the first field) and the number of steps so far; every kind byte has the same grammar
+-- the kind byte of a job with many rows
+abbrev pub rowsKind : ℕ
+rowsKind = 3
+
+-- a step behind fewer than eight, and a row behind no step
+unfoldable pub stepFollows : ℕ → ℕ → Bool
+stepFollows steps tag = isStep tag && ltb steps mostSteps
+
+unfoldable pub rowFollows : ℕ → ℕ → Bool
+rowFollows last tag = not (isStep last) && isRow tag
+
+-- by the kind byte, the last tag (0 before the first field) and the number of steps so far
 unfoldable pub mayFollow : ℕ → ℕ → ℕ → ℕ → Bool
 mayFollow kind last steps tag =
     cond (eqb last 0) (eqb tag 1)
+    (cond (eqb kind rowsKind) (rowFollows last tag || stepFollows steps tag)
     (cond (eqb last 1) (eqb tag 2)
     (cond (eqb last 2) (eqb tag 3)
-    (isStep tag && ltb steps mostSteps)))
+    (stepFollows steps tag))))
 
--- not before tag 3
+-- not before tag 3, where the kind is not that of rows
 unfoldable pub mayEnd : ℕ → ℕ → Bool
-mayEnd kind last = leb 3 last
+mayEnd kind last = eqb kind rowsKind || leb 3 last
 
--- kind, capacity, sizes, a family step, a table
+-- kind, capacity, sizes, a family step, a row, a table
 unfoldable pub lengthRight : ℕ → ℕ → Bool
 lengthRight tag n =
     cond (eqb tag 1) (eqb n 1)
     (cond (eqb tag 2) (eqb n 4)
     (cond (eqb tag 3) (eqb (n % 4) 0 && leb n (4 * mostSizes))
     (cond (eqb tag 4) (eqb n 9)
-    (eqb (n % 4) 0 && (leb 8 n && leb n (4 * mostEntries))))))
+    (cond (eqb tag 6) (eqb (n % 4) 0 && leb 4 n)
+    (eqb (n % 4) 0 && (leb 8 n && leb n (4 * mostEntries)))))))

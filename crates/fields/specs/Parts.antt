@@ -1,9 +1,9 @@
--- The parts of a job, document 01, "Jobs", each found by its tag in the job's list of fields.
+-- The parts of a job, document 01, "Jobs", and document 02, request 1, each found by its tag in the job's list of fields.
 use mathlib.Core.Bool.{Bool, cond, _||_}
-use mathlib.Core.List.{List, [], _∷_}
-use Prim.Native.Nat.{ℕ}
+use mathlib.Core.List.{List, [], _∷_, map}
+use Prim.Native.Nat.{ℕ, _+_}
 use lib.Dec.{eqb}
-use lib.ListN.{getD}
+use lib.ListN.{length, getD, drop}
 use Rattle.fields.specs.Bytes.{word, words}
 
 pub record Field : Type 0 where
@@ -38,9 +38,32 @@ isStep tag = eqb tag 4 || eqb tag 5
 unfoldable pub stepOf : Field → Step
 stepOf f = cond (eqb (f .tag) 4) (onFamily (getD (f .value) 0 0) (word (f .value) 1) (word (f .value) 5)) (onTable (words (f .value)))
 
+-- the fields whose tag passes a test, in their order
+unfoldable pub chosen : (ℕ → Bool) → List Field → List Field
+chosen test [] = []
+chosen test (f ∷ fields) = cond (test (f .tag)) (f ∷ chosen test fields) (chosen test fields)
+
 unfoldable pub jobSteps : List Field → List Step
-jobSteps [] = []
-jobSteps (f ∷ fields) = cond (isStep (f .tag)) (stepOf f ∷ jobSteps fields) (jobSteps fields)
+jobSteps fields = map stepOf (chosen isStep fields)
+
+-- a row, a knapsack constraint: its right side and its coefficients
+pub record Row : Type 0 where
+  pub right-side : ℕ
+  pub coefficients : List ℕ
+
+unfoldable pub rowOf : Field → Row
+rowOf f = record { right-side = word (f .value) 0; coefficients = words (drop 4 (f .value)) }
+
+unfoldable pub isRow : ℕ → Bool
+isRow tag = eqb tag 6
+
+unfoldable pub jobRows : List Field → List Row
+jobRows fields = map rowOf (chosen isRow fields)
+
+-- the number of coefficients of all rows
+unfoldable pub coefficientCount : List Row → ℕ
+coefficientCount [] = 0
+coefficientCount (r ∷ rows) = length (r .coefficients) + coefficientCount rows
 
 -- the tag of the last field, or the tag given where there is none
 unfoldable pub lastTagFrom : ℕ → List Field → ℕ

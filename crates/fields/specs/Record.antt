@@ -2,19 +2,20 @@
 use mathlib.Core.Path.{_≡_}
 use mathlib.Core.Bool.{true, cond}
 use mathlib.Core.List.{List, [], _∷_, _++_, map}
-use Prim.Native.Nat.{ℕ, _+_, _*_, _≤_, _<_}
+use Prim.Native.Nat.{ℕ, suc, _+_, _*_, _^_, _≤_, _<_}
 use lib.Dec.{eqb}
 use lib.ListN.{length, getD, take, drop}
 use Rattle.tables.specs.Check.{mostEntries}
-use Rattle.fields.specs.Bytes.{word, words}
-use Rattle.fields.specs.Parts.{Field, fieldOf, valueOf, isStep, Step, onFamily, onTable, jobKind, jobCapacity, jobSizes, jobSteps}
+use Rattle.fields.specs.Bytes.{headerBytes, word, words, fieldLength, fieldWithin}
+use Rattle.fields.specs.Parts.{Field, fieldOf, valueOf, isStep, Step, onFamily, onTable, Row, rowOf, isRow, jobKind, jobCapacity, jobSizes, jobSteps, jobRows, coefficientCount}
 use Rattle.fields.specs.Grammar.{mostSizes, mostSteps, lengthRight}
-use Rattle.fields.specs.Reading.{refused, complete, jobFields, fieldsOf}
+use Rattle.fields.specs.Reading.{firstField, refused, complete, jobFields, fieldsOf}
 use Rattle.fields.specs.declared.Span.{Span}
 use Rattle.fields.specs.declared.JobStep.{JobStep}
 use Rattle.fields.specs.declared.JobSteps.{JobSteps}
 use Rattle.fields.specs.declared.JobParts.{JobParts}
 use Rattle.fields.specs.declared.JobRead.{JobRead}
+use Rattle.fields.specs.declared.RowPlace.{RowPlace}
 
 -- the bytes of a span of the job, and that they are within it
 unfoldable pub spanBytes : List ℕ → Span → List ℕ
@@ -59,29 +60,86 @@ pub record PartsOf (job : List ℕ) (fields : List Field) (parts : JobParts) : T
   pub sizes-most : parts .sizes .n ≤ mostSizes
   pub steps-are : stepsIn job (parts .steps) ≡ jobSteps fields
   pub steps-within : StepsWithin job (parts .steps)
+  pub rows-count : parts .rows ≡ length (jobRows fields)
+  pub coefficients-count : parts .coefficients ≡ coefficientCount (jobRows fields)
 
 -- a field that may follow these fields, with its value at a place of the job
 pub record NextField (job : List ℕ) (fields : List Field) (tag at : ℕ) (value : List ℕ) : Type 0 where
   pub value-at : value ≡ take (length value) (drop at job)
   pub value-within : at + length value ≤ length job
   pub length-right : lengthRight tag (length value) ≡ true
-  pub step-tag : 4 ≤ tag → isStep tag ≡ true
+  pub step-tag : 4 ≤ tag → (tag ≡ 6 → ⊥) → isStep tag ≡ true
   pub new : tag < 4 → valueOf tag (fields ++ (fieldOf tag value ∷ [])) ≡ value
 
--- what filling the record with a field asks: a tag with a right length, and a place where it is a step
+-- what filling the record with a field asks: a tag with a right length, a place where it is a step, and counts that do not wrap
 pub record Fillable (parts : JobParts) (tag n : ℕ) : Type 0 where
   pub known : 1 ≤ tag
   pub length-right : lengthRight tag n ≡ true
   pub places : length (parts .steps .items) ≡ mostSteps
-  pub room : 4 ≤ tag → parts .steps .count < mostSteps
+  pub room : 4 ≤ tag → (tag ≡ 6 → ⊥) → parts .steps .count < mostSteps
+  pub countable : parts .rows + parts .coefficients + n < 2 ^ 64
 
 -- the record with the field: it has the parts of these fields, and then of these and the field
 abbrev pub Filled : JobParts → ℕ → ℕ → List ℕ → JobParts → Type 0
 Filled parts tag at value next =
     (job : List ℕ) (fields : List Field) → PartsOf job fields parts → NextField job fields tag at value → PartsOf job (fields ++ (fieldOf tag value ∷ [])) next
 
--- the number that refuses a field, or 0 with the parts of all fields
+-- a field at a place of the job
+pub record FieldAt (job : List ℕ) (at : ℕ) (f : Field) : Type 0 where
+  pub within : fieldWithin (drop at job) ≡ true
+  pub is-first : f ≡ firstField (drop at job)
+  pub length-right : lengthRight (f .tag) (length (f .value)) ≡ true
+
+-- fields one behind the other, from a place of the job to another
+unfoldable pub Stand : List ℕ → ℕ → List Field → ℕ → Type 0
+Stand job at [] end = at ≡ end
+Stand job at (f ∷ fields) end = FieldAt job at f × Stand job (at + headerBytes + length (f .value)) fields end
+
+-- the rows behind the first k of these fields are those of the fields from a place of the job on
+pub record RowsLeft (job : List ℕ) (fields : List Field) (k at : ℕ) : Type 0 where
+  pub left : List Field
+  pub stand : Stand job at left (length job)
+  pub rows-left : jobRows left ≡ drop k (jobRows fields)
+
+-- there is a row from a place of the job on
+pub record RowAhead (job : List ℕ) (at : ℕ) : Type 0 where
+  pub fields : List Field
+  pub k : ℕ
+  pub there : RowsLeft job fields k at
+  pub more : k < length (jobRows fields)
+
+abbrev pub noRow : Row
+noRow = record { right-side = 0; coefficients = [] }
+
+unfoldable pub rowIn : List ℕ → RowPlace → Row
+rowIn job r = record { right-side = r .capacity; coefficients = words (spanBytes job (r .coefficients)) }
+
+-- a row in a field at a place of the job, and that it was read
+pub record RowHere (job : List ℕ) (at : ℕ) : Type 0 where
+  pub field : Field
+  pub there : FieldAt job at field
+  pub is-row : isRow (field .tag) ≡ true
+
+pub record RowRead (job : List ℕ) (at : ℕ) (r : RowPlace) : Type 0 where
+  pub row-is : rowIn job r ≡ rowOf (firstField (drop at job))
+  pub next-is : r .next ≡ at + headerBytes + fieldLength (drop at job)
+  pub within : SpanWithin job (r .coefficients)
+  pub small : r .capacity < 2 ^ 32
+
+-- row k at its place in the job, and the rows behind it
+pub record RowFound (job : List ℕ) (fields : List Field) (k : ℕ) (r : RowPlace) : Type 0 where
+  pub row-is : getD (jobRows fields) k noRow ≡ rowIn job r
+  pub behind : RowsLeft job fields (suc k) (r .next)
+
+-- whichever fields stand from a place on, the row is their first
+pub record RowsFound (job : List ℕ) (at : ℕ) (r : RowPlace) : Type 0 where
+  pub found : (fields : List Field) (k : ℕ) → RowsLeft job fields k at → k < length (jobRows fields) → RowFound job fields k r
+  pub within : SpanWithin job (r .coefficients)
+  pub small : r .capacity < 2 ^ 32
+
+-- the number that refuses a field, or 0 with the parts of all fields and where they stand
 pub record JobReading (job : List ℕ) (r : JobRead) : Type 0 where
   pub refused-as : (r .number ≡ 0 → ⊥) → jobFields job ≡ refused (r .number)
   pub complete-as : r .number ≡ 0 → jobFields job ≡ complete (fieldsOf (jobFields job))
   pub parts-are : r .number ≡ 0 → PartsOf job (fieldsOf (jobFields job)) (r .parts)
+  pub stand : r .number ≡ 0 → Stand job 0 (fieldsOf (jobFields job)) (length job)

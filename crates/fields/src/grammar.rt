@@ -3,13 +3,14 @@
 use crate::Header;
 use crate::MOST_SIZES;
 use crate::MOST_STEPS;
+use crate::ROWS_KIND;
 ghost use mathlib.Core.Path.{_≡_};
 ghost use mathlib.Core.Bool.{_&&_};
 ghost use Prim.Native.Nat.{_*_};
 ghost use lib.Dec.{leb};
 ghost use Rattle.tables.specs.Check.{mostEntries};
 ghost use Rattle.fields.specs.Parts.{isStep};
-ghost use Rattle.fields.specs.Grammar.{mayFollow, mayEnd, lengthRight};
+ghost use Rattle.fields.specs.Grammar.{stepFollows, rowFollows, mayFollow, mayEnd, lengthRight};
 ghost use Rattle.fields.specs.Reading.{headerRefusal};
 
 // The bytes of the longest list of sizes and of the longest table.
@@ -26,15 +27,34 @@ fn is_step(tag: u8) -> bool
     tag == 5
 }
 
+// A step behind fewer than eight.
+fn step_follows(steps: usize, tag: u8) -> bool
+    ensures { λ r. ⌜ r ≡ stepFollows steps tag ⌝ }
+{
+    is_step(tag) && steps < MOST_STEPS
+}
+
+// A row behind no step.
+fn row_follows(last: u8, tag: u8) -> bool
+    ensures { λ r. ⌜ r ≡ rowFollows last tag ⌝ }
+{
+    !is_step(last) && tag == 6
+}
+
 // Whether a tag may follow the last one, 0 before the first field.
 fn may_follow(kind: u8, last: u8, steps: usize, tag: u8) -> bool
     ensures { λ r. ⌜ r ≡ mayFollow kind last steps tag ⌝ }
 {
+    if last == 0 {
+        return tag == 1;
+    }
+    if kind == ROWS_KIND {
+        return row_follows(last, tag) || step_follows(steps, tag);
+    }
     match last {
-        0 => tag == 1,
         1 => tag == 2,
         2 => tag == 3,
-        _ => is_step(tag) && steps < MOST_STEPS,
+        _ => step_follows(steps, tag),
     }
 }
 
@@ -42,7 +62,7 @@ fn may_follow(kind: u8, last: u8, steps: usize, tag: u8) -> bool
 pub(crate) fn may_end(kind: u8, last: u8) -> bool
     ensures { λ r. ⌜ r ≡ mayEnd kind last ⌝ }
 {
-    3 <= last
+    kind == ROWS_KIND || 3 <= last
 }
 
 // The bytes of a table: 2 to MOST_ENTRIES entries of four.
@@ -60,6 +80,7 @@ fn length_right(tag: u8, n: usize) -> bool
         2 => n == 4,
         3 => n % 4 == 0 && n <= MOST_LIST_BYTES,
         4 => n == 9,
+        6 => n % 4 == 0 && 4 <= n,
         _ => n % 4 == 0 && table_length_right(n),
     }
 }

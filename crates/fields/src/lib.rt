@@ -2,17 +2,23 @@
 mod grammar;
 mod parts;
 mod reader;
+pub mod rows;
 pub mod words;
 
 ghost use mathlib.Core.Path.{_≡_};
 ghost use Rattle.fields.specs.Record.{spanBytes, SpanWithin, JobReading};
 
-// The most bytes, sizes and steps of a job.
+// The most bytes, sizes (in kind 3 coefficients of all rows), rows and steps of a job.
 pub const MOST_BYTES: usize = 65_535;
 
 pub const MOST_SIZES: usize = 2_048;
 
+pub const MOST_ROWS: usize = 64;
+
 pub const MOST_STEPS: usize = 8;
+
+// The kind byte of a job with many rows.
+pub const ROWS_KIND: u8 = 3;
 
 // The bytes of a header: a tag and a two-byte length.
 const HEADER: usize = 3;
@@ -45,12 +51,21 @@ pub struct JobSteps {
     pub count: usize,
 }
 
-// The parts of a job.
+// The parts of a job: of its rows how many there are, and how many coefficients they have in all.
 pub struct JobParts {
     pub capacity: u64,
     pub sizes: Span,
     pub steps: JobSteps,
+    pub rows: usize,
+    pub coefficients: usize,
     pub kind: u8,
+}
+
+// A row of a job: its right side, which is its capacity, where its coefficients are, and the place behind it.
+pub struct RowPlace {
+    pub capacity: u64,
+    pub coefficients: Span,
+    pub next: usize,
 }
 
 // A job that was read, or the number that refuses a field.

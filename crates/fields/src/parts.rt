@@ -25,6 +25,8 @@ pub(crate) fn no_parts() -> JobParts
             items: [none; MOST_STEPS],
             count: 0,
         },
+        rows: 0,
+        coefficients: 0,
     }
 }
 
@@ -90,6 +92,11 @@ pub(crate) fn with_field(parts: JobParts, tag: u8, at: usize, value: &[u8]) -> J
         }
         4 => {
             next.steps = with_step(steps, family_step(value));
+            next
+        }
+        6 => {
+            next.rows = parts.rows + 1;
+            next.coefficients = parts.coefficients + (n - 1);
             next
         }
         _ => {

@@ -1,8 +1,9 @@
 // Runs the job operation on the cases of standard input, a line each, in decimal, one space
-// between: i w l b k and k runs. The image, working and list buffers have i, w and l places, and
-// the job b bytes: those of the runs (count, byte) in turn, and 0 behind them; what does not fit is
-// ignored. Empty lines are skipped: they fill up a block of 65,536 bytes, as no case lies in two.
-// Writes a line for each answer: its seven numbers, then a checksum of the image and list buffers.
+// between: i w l s b k and k runs. The image, working, list and scales buffers have i, w, l and s
+// places, and the job b bytes: those of the runs (count, byte) in turn, and 0 behind them; what does
+// not fit is ignored. Empty lines are skipped: they fill up a block of 65,536 bytes, as no case lies
+// in two. Writes a line for each answer: its eight numbers, then a checksum of the image, list and
+// scales buffers.
 use libc::STDIN_FILENO;
 use libc::STDOUT_FILENO;
 ghost use Prim.Native.Nat.{_≤_, _<_};
@@ -71,19 +72,28 @@ fn write_answer(answer: jobs::JobAnswer) {
     write_number(answer.scale);
     write_number(answer.step);
     write_number(answer.length);
+    write_number(answer.row);
 }
 
-fn answer_job(job: &[u8], images: &mut [u32], working: &mut [u64], list: &mut [u32]) {
-    write_answer(jobs::windowfloor_job(job, images, working, list));
+fn answer_job(
+    job: &[u8],
+    images: &mut [u32],
+    working: &mut [u64],
+    list: &mut [u32],
+    scales: &mut [u32],
+) {
+    write_answer(jobs::windowfloor_job(job, images, working, list, scales));
     write_number(buffers::list_sum(images));
     write_number(buffers::list_sum(list));
+    write_number(buffers::list_sum(scales));
     io::write_all(STDOUT_FILENO, b"\n");
 }
 
-fn fill_buffers(images: &mut [u32], working: &mut [u64], list: &mut [u32]) {
+fn fill_buffers(images: &mut [u32], working: &mut [u64], list: &mut [u32], scales: &mut [u32]) {
     buffers::fill(images, 800_000, 1);
     buffers::fill_working(working);
     buffers::fill(list, 900_000, 1);
+    buffers::fill(scales, 700_000, 1);
 }
 
 fn run_job(
@@ -93,12 +103,13 @@ fn run_job(
     images: &mut [u32],
     working: &mut [u64],
     list: &mut [u32],
+    scales: &mut [u32],
 ) -> usize
     ensures { λ r. ⌜ at ≤ r ⌝ }
 {
     let end = make_job(text, at, job);
-    fill_buffers(images, working, list);
-    answer_job(job, images, working, list);
+    fill_buffers(images, working, list, scales);
+    answer_job(job, images, working, list, scales);
     end
 }
 
@@ -109,13 +120,22 @@ fn read_and_run(
     images: &mut [u32],
     working: &mut [u64],
     list: &mut [u32],
+    scales: &mut [u32],
 ) -> usize
     ensures { λ r. ⌜ at ≤ r ⌝ }
 {
     let b = decimal::number_at(text, at);
     let bytes = buffers::at_most(b.value, MOST_BYTES);
     let mut job = io::large_buffer();
-    run_job(text, b.next, &mut job[..bytes], images, working, list)
+    run_job(
+        text,
+        b.next,
+        &mut job[..bytes],
+        images,
+        working,
+        list,
+        scales,
+    )
 }
 
 // Runs the case at a place and answers the place behind it.
@@ -125,18 +145,22 @@ fn run_case(text: &[u8], at: usize) -> usize
     let i = decimal::number_at(text, at);
     let w = decimal::number_at(text, i.next);
     let l = decimal::number_at(text, w.next);
+    let s = decimal::number_at(text, l.next);
     let sizes = buffers::at_most(i.value, MOST_PLACES);
     let places = buffers::at_most(w.value, MOST_PLACES);
     let listed = buffers::at_most(l.value, MOST_PLACES);
+    let scaled = buffers::at_most(s.value, MOST_PLACES);
     let mut images = [0u32; MOST_PLACES];
     let mut working = [0u64; MOST_PLACES];
     let mut list = [0u32; MOST_PLACES];
+    let mut scales = [0u32; MOST_PLACES];
     read_and_run(
         text,
-        l.next,
+        s.next,
         &mut images[..sizes],
         &mut working[..places],
         &mut list[..listed],
+        &mut scales[..scaled],
     )
 }
 

@@ -1,168 +1,170 @@
 -- The whole job operation: which refusal stands, and that an accepted answer is safe.
 use mathlib.Core.Path.{_≡_, refl, ap, sym, _∙_}
-use mathlib.Core.Bool.{_||_}
-use mathlib.Core.List.{List, _++_}
+use mathlib.Core.Bool.{Bool, true, false, cond, not, _||_}
+use mathlib.Core.List.{List, _++_, map}
 use mathlib.Core.Logic.{⊎-elim}
 use Prim.Native.Nat.{ℕ, _-_, _≤_, _<_}
 use native.Mathlib.Nat.{eq-zero-or-pos}
 use native.Mathlib.Omega.{arith}
-use borrow.Author.Tests.{eq-eqb, ne-eqb, ltb-false}
-use lib.Dec.{ltb}
-use lib.ListN.{length, length-map, take, drop}
+use borrow.Author.Tests.{eqb-true, eqb-false, eq-eqb, ne-eqb, ltb-false}
+use lib.Dec.{ltb, eqb}
+use lib.ListN.{length, length-map, getD, take, drop}
 use lib.Seq.{take-at}
 use Rattle.functions.proofs.Cases.{not-refused, neither}
 use Rattle.tables.specs.Check.{mostEntries}
 use Rattle.tables.specs.Promise.{Overshoots}
-use Rattle.fields.specs.Bytes.{words}
-use Rattle.fields.specs.Parts.{Field, jobKind, jobCapacity, jobSizes, jobSteps}
-use Rattle.fields.specs.Grammar.{mostBytes, mostSizes}
+use Rattle.fields.specs.Parts.{Field, Step, Row, jobKind, jobCapacity, jobSizes, jobSteps, jobRows, coefficientCount}
+use Rattle.fields.specs.Grammar.{mostBytes, mostSizes, mostRows, rowsKind}
 use Rattle.fields.specs.Reading.{refused, fieldsOf}
-use Rattle.fields.specs.Record.{spanBytes, stepsIn, PartsOf, JobReading}
-use Rattle.fields.specs.declared.JobParts.{JobParts}
+use Rattle.fields.specs.Record.{JobReading, noRow}
 use Rattle.fields.specs.declared.JobRead.{JobRead}
-use Rattle.jobs.specs.Chain.{chainImage, chainScale}
-use Rattle.jobs.specs.Sizes.{listRefusal}
+use Rattle.chains.specs.Chain.{chainImage, chainScale}
+use Rattle.chains.specs.Apply.{ChainAppliable}
+use Rattle.jobs.specs.Kinds.{isKind, leastOf, rowsFit}
 use Rattle.jobs.specs.Packing.{ChainPromise}
-use Rattle.jobs.specs.Judge.{Refusal, judgeChain, verdictOf, entriesAt, ChainJudged, CheckRoom}
-use Rattle.jobs.specs.Job.{plain, judgeFields, judgeReading, fieldsIn, bufferRefusal, judgeJob, jobImages, acceptedAnswer, refusedAnswer, answerBy, imagesBy, listBy, Answered, jobAnswer, imagesAfter, listAfterJob, JobSafe}
+use Rattle.chains.specs.Judge.{Refusal, plain, entriesAt, verdictOf, listBy, Judged, CheckRoom}
+use Rattle.jobs.specs.JudgeRows.{judgeRow, judgeRows}
+use Rattle.jobs.specs.Job.{judgeFields, judgeReading, fieldsIn, Places, placesOf, bufferRefusal, judgeJob, rowImages, rowScale, rowsImages, jobImages, jobCount, jobScales, acceptedAnswer, refusedAnswer, answerBy, imagesBy, scalesBy, Finished, Answered, jobAnswer, imagesAfter, listAfterJob, scalesAfter, CutHolds, RowHolds, JobSafe}
 use Rattle.jobs.specs.declared.JobAnswer.{JobAnswer}
-use Rattle.jobs.specs.declared.Verdict.{Verdict}
+use Rattle.chains.specs.declared.Verdict.{Verdict}
 use Rattle.jobs.proofs.Packings.{chain-is-safe}
-use Rattle.jobs.proofs.Judged.{JobFine, job-fine, list-refused, list-passed, refused-overshoots}
-use Rattle.jobs.proofs.Outside.{list-other}
+use Rattle.chains.proofs.Judged.{list-overshoots}
+use Rattle.jobs.proofs.Judged.{row-appliable, rows-accepted, list-fine, rows-fine, kind-refused, rows-kind, list-kind, rows-overshoot}
+use Rattle.jobs.proofs.Writing.{images-at, scale-at}
 
 -- the places that refusal 7 leaves
-pub rooms : (n : ℕ) (images working list : List ℕ) → bufferRefusal n (length images) (length working) (length list) ≡ 0 → (mostSizes ≤ length images) × CheckRoom working list
+pub record Rooms (images working list scales : List ℕ) : Type 0 where
+  pub for-images : mostSizes ≤ length images
+  pub for-scales : mostRows ≤ length scales
+  pub for-check : CheckRoom working list
+
+pub rooms : (n : ℕ) (images working list scales : List ℕ) → bufferRefusal n (placesOf images working list scales) ≡ 0 → Rooms images working list scales
 unfolding bufferRefusal
-rooms n images working list e =
-    let short = ltb (length images) mostSizes || ltb (length working) mostEntries in
-    let enough = not-refused (short || ltb (length list) (mostEntries - 1)) 7 0 (omega arith) (not-refused (ltb mostBytes n) 12 _ (omega arith) e .1) .0 in
-    let both = neither short (ltb (length list) (mostEntries - 1)) enough in
-    let first = neither (ltb (length images) mostSizes) (ltb (length working) mostEntries) (both .0) in
-    (ltb-false (length images) mostSizes (first .0), record { for-bests = ltb-false (length working) mostEntries (first .1); for-list = ltb-false (length list) (mostEntries - 1) (both .1) })
+rooms n images working list scales e =
+    let two = ltb (length images) mostSizes || ltb (length working) mostEntries in
+    let three = two || ltb (length list) (mostEntries - 1) in
+    let enough = not-refused (three || ltb (length scales) mostRows) 7 0 (omega arith) (not-refused (ltb mostBytes n) 12 _ (omega arith) e .1) .0 in
+    let last = neither three (ltb (length scales) mostRows) enough in
+    let third = neither two (ltb (length list) (mostEntries - 1)) (last .0) in
+    let first = neither (ltb (length images) mostSizes) (ltb (length working) mostEntries) (third .0) in
+    record {
+      for-images = ltb-false (length images) mostSizes (first .0);
+      for-scales = ltb-false (length scales) mostRows (last .1);
+      for-check = record { for-bests = ltb-false (length working) mostEntries (first .1); for-list = ltb-false (length list) (mostEntries - 1) (third .1) };
+    }
+
+-- a refusal as an answer
+pub refused-as : (r : Refusal) (v : Verdict) (answer : JobAnswer) → v ≡ verdictOf r → answer ≡ record { number = v .number; n = 0; floor = 0; sum = 0; scale = 0; step = v .step; length = v .length; row = v .row } → answer ≡ refusedAnswer r
+unfolding verdictOf refusedAnswer
+refused-as r v answer is e = rw is at e
+
+pub verdict-number : (r : Refusal) (v : Verdict) → v ≡ verdictOf r → v .number ≡ r .number
+unfolding verdictOf
+verdict-number r v is = ap (λ (u : Verdict). u .number) is
 
 -- the answer and the buffers, by what judges the job
-module _ (r : Refusal) (fields : List Field) (images list : List ℕ) (answer : JobAnswer) (list′ : List ℕ) (listed : list′ ≡ listBy r list) where
-  pub answered-refused : (r .number ≡ 0 → ⊥) → answer ≡ refusedAnswer r → Answered r fields images list answer images list′
-  unfolding answerBy imagesBy
+module _ (r : Refusal) (fields : List Field) (images list scales : List ℕ) (answer : JobAnswer) (list′ : List ℕ) (listed : list′ ≡ listBy r list) where
+  pub answered-refused : (r .number ≡ 0 → ⊥) → answer ≡ refusedAnswer r → Answered r fields images list scales answer images list′ scales
+  unfolding answerBy imagesBy scalesBy
   answered-refused some e =
-      record { answer-is = rw (ne-eqb (r .number) 0 some) e; images-are = rw (ne-eqb (r .number) 0 some); list-is = listed }
+      let stop = ne-eqb (r .number) 0 some in
+      record { answer-is = rw stop e; images-are = rw stop; list-is = listed; scales-are = rw stop }
 
-  pub answered-accepted : r .number ≡ 0 → answer ≡ acceptedAnswer fields → (images′ : List ℕ) → images′ ≡ jobImages fields → (n : ℕ) → n ≡ length (jobSizes fields) → Answered r fields images list answer (images′ ++ drop n images) list′
-  unfolding answerBy imagesBy
-  answered-accepted none e images′ mapped n long =
-      record { answer-is = rw (eq-eqb (r .number) 0 none) e; images-are = rw (eq-eqb (r .number) 0 none, mapped, long); list-is = listed }
+  pub answered-accepted : r .number ≡ 0 → (images′ scales′ : List ℕ) → Finished fields images scales answer images′ scales′ → Answered r fields images list scales answer images′ list′ scales′
+  unfolding answerBy imagesBy scalesBy
+  answered-accepted none images′ scales′ done =
+      let pass = eq-eqb (r .number) 0 none in
+      record { answer-is = rw pass (done .answer-is); images-are = rw pass (done .images-are); list-is = listed; scales-are = rw pass (done .scales-are) }
 
 number-by : (r : Refusal) (fields : List Field) → answerBy r fields .number ≡ r .number
 unfolding answerBy acceptedAnswer refusedAnswer
 number-by r fields = ⊎-elim (λ none. rw (eq-eqb (r .number) 0 none) (sym none)) (λ some. rw (ne-eqb (r .number) 0 (omega arith))) (eq-zero-or-pos (r .number))
 
--- nothing is written for a refusal outside of the steps
-pub answered-outside : (n : ℕ) (fields : List Field) (images list : List ℕ) (answer : JobAnswer) → (n ≡ 0 → ⊥) → answer ≡ record { number = n; n = 0; floor = 0; sum = 0; scale = 0; step = 0; length = 0 } → Answered (plain n) fields images list answer images list
-unfolding plain refusedAnswer listBy
-answered-outside n fields images list answer some e = answered-refused (plain n) fields images list answer list refl some e
-
--- a job that was read, judged by its parts
-module _ (job : List ℕ) (fields : List Field) (parts : JobParts) (h : PartsOf job fields parts) (images list : List ℕ) (n : ℕ) (is : n ≡ listRefusal (parts .kind) (parts .capacity) (words (spanBytes job (parts .sizes)))) where
-  list-number : n ≡ listRefusal (jobKind fields) (jobCapacity fields) (jobSizes fields)
-  list-number = is ∙ rw (h .kind-is, h .capacity-is, h .sizes-are)
-
-  pub parts-refused : (n ≡ 0 → ⊥) → (answer : JobAnswer) → answer ≡ record { number = n; n = 0; floor = 0; sum = 0; scale = 0; step = 0; length = 0 } → Answered (judgeFields fields) fields images list answer images list
-  parts-refused some answer e = rw (list-refused fields n list-number some) (answered-outside n fields images list answer some e)
-
-  module _ (none : n ≡ 0) (v : Verdict) (list′ : List ℕ) (j : ChainJudged (parts .capacity) (stepsIn job (parts .steps)) list v list′) where
-    chain : Refusal
-    chain = judgeChain (jobCapacity fields) 0 (jobSteps fields)
-
-    judged : judgeFields fields ≡ chain
-    unfolding chain
-    judged = list-passed fields (sym list-number ∙ none)
-
-    verdict : v ≡ verdictOf (jobCapacity fields) (jobSteps fields)
-    verdict = rw (h .capacity-is, h .steps-are) at (j .verdict-is)
-
-    number-is : v .number ≡ chain .number
-    unfolding verdictOf chain
-    number-is = ap (λ (u : Verdict). u .number) verdict
-
-    list-is : list′ ≡ listBy chain list
-    unfolding verdictOf listBy chain
-    list-is = rw (h .capacity-is, h .steps-are, verdict) at (j .list-is)
-
-    pub step-refused : (v .number ≡ 0 → ⊥) → (answer : JobAnswer) → answer ≡ record { number = v .number; n = 0; floor = 0; sum = 0; scale = 0; step = v .step; length = v .length } → Answered (judgeFields fields) fields images list answer images list′
-    unfolding refusedAnswer verdictOf chain
-    step-refused some answer e =
-        rw judged (answered-refused chain fields images list answer list′ list-is (λ zero. some (number-is ∙ zero)) (rw verdict at e))
-
-    module _ (zero : v .number ≡ 0) where
-      pub fields-accepted : judgeFields fields .number ≡ 0
-      fields-accepted = ap (λ (r : Refusal). r .number) judged ∙ sym number-is ∙ zero
-
-      pub scale-is : v .scale ≡ chainScale (jobCapacity fields) (jobSteps fields)
-      unfolding verdictOf chain
-      scale-is = ap (λ (u : Verdict). u .scale) verdict ∙ rw (eq-eqb (chain .number) 0 (sym number-is ∙ zero))
-
-      pub parts-accepted : (answer : JobAnswer) (images′ : List ℕ) (m : ℕ) → (answer ≡ acceptedAnswer fields) × (images′ ≡ jobImages fields) → m ≡ length (jobSizes fields) → Answered (judgeFields fields) fields images list answer (images′ ++ drop m images) list′
-      parts-accepted answer images′ m done long =
-          answered-accepted (judgeFields fields) fields images list answer list′ (rw judged list-is) fields-accepted (done .0) images′ (done .1) m long
-
 -- 11 of the fields is 11 of a step, whose list overshoots
 fields-overshoot : (fields : List Field) → judgeFields fields .number ≡ 11 → Overshoots (entriesAt (jobSteps fields) (judgeFields fields .step)) (judgeFields fields .list)
 unfolding plain
-fields-overshoot fields e = ⊎-elim steps outside (eq-zero-or-pos (listRefusal (jobKind fields) (jobCapacity fields) (jobSizes fields)))
+fields-overshoot fields e = go (eqb (jobKind fields) rowsKind) refl
   where
-    steps : listRefusal (jobKind fields) (jobCapacity fields) (jobSizes fields) ≡ 0 → Overshoots (entriesAt (jobSteps fields) (judgeFields fields .step)) (judgeFields fields .list)
-    steps none =
-        let is = list-passed fields none in
-        rw is (refused-overshoots (jobSteps fields) (jobCapacity fields) (sym (ap (λ (r : Refusal). r .number) is) ∙ e))
+    Over : Refusal → Type 0
+    Over r = r .number ≡ 11 → Overshoots (entriesAt (jobSteps fields) (r .step)) (r .list)
 
-    outside : 0 < listRefusal (jobKind fields) (jobCapacity fields) (jobSizes fields) → Overshoots (entriesAt (jobSteps fields) (judgeFields fields .step)) (judgeFields fields .list)
-    outside some = absurd (list-other _ _ _ (sym (ap (λ (r : Refusal). r .number) (list-refused fields _ refl (omega arith))) ∙ e))
+    rows : (test : Bool) → Over (cond (not test) (plain 21) (judgeRows 0 (jobSteps fields) (jobRows fields)))
+    rows true eleven = rows-overshoot (jobSteps fields) (jobRows fields) 0 eleven
+    rows false eleven = absurd (omega (arith, eleven))
 
--- P4
-module _ (job : List ℕ) (fine : judgeFields (fieldsIn job) .number ≡ 0) (behind : List ℕ) where
-  abbrev fields : List Field
-  fields = fieldsIn job
+    list : (jobKind fields ≡ rowsKind → ⊥) → (test : Bool) → isKind (jobKind fields) ≡ test → Over (judgeFields fields)
+    list other true is = rw (list-kind fields other is) (list-overshoots (leastOf (jobKind fields)) (jobCapacity fields) (jobSizes fields) (jobSteps fields))
+    list other false is = rw (kind-refused fields is) (λ eleven. absurd (omega (arith, eleven)))
 
-  facts : JobFine fields
-  facts = job-fine fields fine
+    go : (test : Bool) → eqb (jobKind fields) rowsKind ≡ test → Overshoots (entriesAt (jobSteps fields) (judgeFields fields .step)) (judgeFields fields .list)
+    go true is =
+        let judged = rows-kind fields (eqb-true (jobKind fields) rowsKind is) in
+        rw judged (rows (rowsFit (length (jobRows fields)) (coefficientCount (jobRows fields))) (sym (ap (λ (r : Refusal). r .number) judged) ∙ e))
+    go false is = list (eqb-false (jobKind fields) rowsKind is) (isKind (jobKind fields)) refl e
 
-  chain-safe : ChainPromise (jobCapacity fields) (jobSteps fields)
-  chain-safe = chain-is-safe (jobCapacity fields) (jobSteps fields) (facts .capacity-positive) (facts .capacity-within-limit) (facts .chain)
+-- P4, from P3
+promised : (c : ℕ) (S : List Step) (sizes : List ℕ) → ChainAppliable c S sizes → ChainPromise c S
+promised c S sizes a = chain-is-safe c S (a .positive) (a .within-limit) (a .accepted)
 
-  first-places : take (length (jobSizes fields)) (jobImages fields ++ behind) ≡ jobImages fields
-  unfolding jobImages
-  first-places =
-      take-at (jobImages fields) behind (length (jobSizes fields)) (length-map (jobSizes fields) (chainImage (jobCapacity fields) (jobSteps fields)))
+cut-of : (c : ℕ) (S : List Step) (row behind : List ℕ) → ChainPromise c S → CutHolds c row (map (chainImage c S) row ++ behind) (chainScale c S)
+unfolding CutHolds
+cut-of c S row behind p = λ counts long satisfied. rw (take-at (map (chainImage c S) row) behind (length row) (length-map row (chainImage c S))) (p .cut-holds row counts long satisfied)
 
-  pub job-safe : JobSafe job (acceptedAnswer fields) (jobImages fields ++ behind)
+module _ (fields : List Field) (fine : judgeFields fields .number ≡ 0) (behind more : List ℕ) where
+  abbrev c : ℕ
+  c = jobCapacity fields
+
+  abbrev S : List Step
+  S = jobSteps fields
+
+  list-safe : (jobKind fields ≡ rowsKind → ⊥) → ChainPromise c S
+  list-safe list = promised c S (jobSizes fields) (list-fine fields list fine)
+
+  one-cut : jobKind fields ≡ 2 → CutHolds c (jobSizes fields) (jobImages fields ++ behind) (acceptedAnswer fields .scale)
   unfolding acceptedAnswer jobImages
-  job-safe =
-      record {
-        floor-is-safe = λ kind bins h. rw (eq-eqb (jobKind fields) 1 kind) (chain-safe .floor-is-safe (jobSizes fields) bins h);
-        cut-holds = λ kind counts long row. rw first-places (chain-safe .cut-holds (jobSizes fields) counts long row);
-      }
+  one-cut kind = rw kind (cut-of c S (jobSizes fields) behind (list-safe (λ other. omega (arith, kind, other))))
+
+  row-cut : (r : Row) → judgeRow S r .number ≡ 0 → (after : List ℕ) → CutHolds (r .right-side) (r .coefficients) (rowImages S r ++ after) (rowScale S r)
+  unfolding rowImages rowScale
+  row-cut r accepted after = cut-of (r .right-side) S (r .coefficients) after (promised (r .right-side) S (r .coefficients) (row-appliable S r accepted))
+
+  every-row : jobKind fields ≡ rowsKind → (i : ℕ) → i < length (jobRows fields) → RowHolds (jobRows fields) (jobImages fields ++ behind) (jobScales fields ++ more) i
+  unfolding RowHolds jobImages jobScales
+  every-row kind i l =
+      rw (kind, images-at S (jobRows fields) i behind l, scale-at S (jobRows fields) i more l)
+      (row-cut (getD (jobRows fields) i noRow) (rows-accepted S (jobRows fields) 0 (rows-fine fields kind fine .1) i l) _)
 
 -- what the operation promises of its answer and of the buffers afterwards
-abbrev pub Outcome : List ℕ → List ℕ → ℕ → List ℕ → JobAnswer → List ℕ → ℕ → List ℕ → Type 0
-Outcome job images w list answer images′ w′ list′ =
-    (answer ≡ jobAnswer job (length images) w (length list))
-    × ((images′ ≡ imagesAfter job images w (length list))
-    × ((list′ ≡ listAfterJob job (length images) w list)
-    × ((w′ ≡ w)
+module _ (job : List ℕ) (fine : judgeFields (fieldsIn job) .number ≡ 0) (behind more : List ℕ) where
+  pub job-safe : JobSafe job (acceptedAnswer (fieldsIn job)) (jobImages (fieldsIn job) ++ behind) (jobScales (fieldsIn job) ++ more)
+  unfolding acceptedAnswer
+  job-safe =
+      record {
+        floor-is-safe = λ kind bins h. rw (eq-eqb (jobKind (fieldsIn job)) 1 kind) (list-safe (fieldsIn job) fine behind more (λ other. omega (arith, kind, other)) .floor-is-safe (jobSizes (fieldsIn job)) bins h);
+        cut-holds = one-cut (fieldsIn job) fine behind more;
+        every-row-holds = every-row (fieldsIn job) fine behind more;
+      }
+
+abbrev pub Outcome : List ℕ → List ℕ → List ℕ → List ℕ → List ℕ → JobAnswer → List ℕ → ℕ → List ℕ → List ℕ → Type 0
+Outcome job images working list scales answer images′ w′ list′ scales′ =
+    (answer ≡ jobAnswer job (placesOf images working list scales))
+    × ((images′ ≡ imagesAfter job (placesOf images working list scales) images)
+    × ((list′ ≡ listAfterJob job (placesOf images working list scales) list)
+    × ((scales′ ≡ scalesAfter job (placesOf images working list scales) scales)
+    × ((w′ ≡ length working)
     × ((answer .number ≡ 11 → Overshoots (entriesAt (jobSteps (fieldsIn job)) (answer .step)) (take (answer .length) list′))
-    × (answer .number ≡ 0 → JobSafe job answer images′)))))
+    × (answer .number ≡ 0 → JobSafe job answer images′ scales′))))))
 
-module _ (job images : List ℕ) (w : ℕ) (list : List ℕ) (answer : JobAnswer) (w′ : ℕ) (as-long : w′ ≡ w) where
-  -- refused outside of the steps: nothing is written
-  pub refused-outside : (n : ℕ) → judgeJob job (length images) w (length list) ≡ plain n → (n ≡ 0 → ⊥) → (n ≡ 11 → ⊥) → answer ≡ record { number = n; n = 0; floor = 0; sum = 0; scale = 0; step = 0; length = 0 } → Outcome job images w list answer images w′ list
-  unfolding jobAnswer imagesAfter listAfterJob
-  refused-outside n is some other e =
-      let a = rw (← is) at (answered-outside n (fieldsIn job) images list answer some e) in
-      let number : answer .number ≡ n = ap (λ (a : JobAnswer). a .number) e in
-      (a .answer-is, (a .images-are, (a .list-is, (as-long, (λ eleven. absurd (other (sym number ∙ eleven)), λ zero. absurd (some (sym number ∙ zero)))))))
+module _ (job images working list scales : List ℕ) (answer : JobAnswer) (w′ : ℕ) (as-long : w′ ≡ length working) where
+  -- refused outside of rows and steps: nothing is written
+  pub refused-outside : (n : ℕ) → judgeJob job (placesOf images working list scales) ≡ plain n → (n ≡ 0 → ⊥) → (n ≡ 11 → ⊥) → (v : Verdict) → v ≡ verdictOf (plain n) → answer ≡ record { number = v .number; n = 0; floor = 0; sum = 0; scale = 0; step = v .step; length = v .length; row = v .row } → Outcome job images working list scales answer images w′ list scales
+  unfolding jobAnswer imagesAfter listAfterJob scalesAfter plain listBy verdictOf
+  refused-outside n is some other v e-is e =
+      let a = rw (← is) at (answered-refused (plain n) (fieldsIn job) images list scales answer list refl some (refused-as (plain n) v answer e-is e)) in
+      let number : answer .number ≡ n = ap (λ (a : JobAnswer). a .number) e ∙ ap (λ (u : Verdict). u .number) e-is in
+      (a .answer-is, (a .images-are, (a .list-is, (a .scales-are, (as-long, (λ eleven. absurd (other (sym number ∙ eleven)), λ zero. absurd (some (sym number ∙ zero))))))))
 
-  module _ (images′ list′ : List ℕ) (is : judgeJob job (length images) w (length list) ≡ judgeFields (fieldsIn job)) (a : Answered (judgeFields (fieldsIn job)) (fieldsIn job) images list answer images′ list′) where
+  module _ (images′ list′ scales′ : List ℕ) (is : judgeJob job (placesOf images working list scales) ≡ judgeFields (fieldsIn job)) (a : Answered (judgeFields (fieldsIn job)) (fieldsIn job) images list scales answer images′ list′ scales′) where
     abbrev r : Refusal
     r = judgeFields (fieldsIn job)
 
@@ -177,31 +179,33 @@ module _ (job images : List ℕ) (w : ℕ) (list : List ℕ) (answer : JobAnswer
         let written = ap (take (length (r .list))) (a .list-is) ∙ take-at (r .list) (drop (length (r .list)) list) (length (r .list)) refl in
         rw (refused, written) (fields-overshoot (fieldsIn job) number)
 
-    safe : answer .number ≡ 0 → JobSafe job answer images′
-    unfolding answerBy imagesBy
+    safe : answer .number ≡ 0 → JobSafe job answer images′ scales′
+    unfolding answerBy imagesBy scalesBy
     safe zero =
         let number = sym answer-number ∙ zero in
-        let accepted : answer ≡ acceptedAnswer (fieldsIn job) = a .answer-is ∙ rw (eq-eqb (r .number) 0 number) in
-        let written : images′ ≡ jobImages (fieldsIn job) ++ drop (length (jobSizes (fieldsIn job))) images = a .images-are ∙ rw (eq-eqb (r .number) 0 number) in
-        rw (accepted, written) (job-safe job number (drop (length (jobSizes (fieldsIn job))) images))
+        let pass = eq-eqb (r .number) 0 number in
+        let accepted : answer ≡ acceptedAnswer (fieldsIn job) = a .answer-is ∙ rw pass in
+        let written : images′ ≡ jobImages (fieldsIn job) ++ drop (jobCount (fieldsIn job)) images = a .images-are ∙ rw pass in
+        let scaled : scales′ ≡ jobScales (fieldsIn job) ++ drop (length (jobScales (fieldsIn job))) scales = a .scales-are ∙ rw pass in
+        rw (accepted, written, scaled) (job-safe job number (drop (jobCount (fieldsIn job)) images) (drop (length (jobScales (fieldsIn job))) scales))
 
-    pub judged-job : Outcome job images w list answer images′ w′ list′
-    unfolding jobAnswer imagesAfter listAfterJob
+    pub judged-job : Outcome job images working list scales answer images′ w′ list′ scales′
+    unfolding jobAnswer imagesAfter listAfterJob scalesAfter
     judged-job =
         let b = rw (← is) at a in
-        (b .answer-is, (b .images-are, (b .list-is, (as-long, (over, safe)))))
+        (b .answer-is, (b .images-are, (b .list-is, (b .scales-are, (as-long, (over, safe))))))
 
 -- what the code finds, in the order of the refusals
-module _ (job : List ℕ) (i w l : ℕ) where
-  pub buffers-refused : (n : ℕ) → n ≡ bufferRefusal (length job) i w l → (n ≡ 0 → ⊥) → judgeJob job i w l ≡ plain n
+module _ (job : List ℕ) (lent : Places) where
+  pub buffers-refused : (n : ℕ) → n ≡ bufferRefusal (length job) lent → (n ≡ 0 → ⊥) → judgeJob job lent ≡ plain n
   unfolding judgeJob
   buffers-refused n e some = rw (← e, ne-eqb n 0 some)
 
-  module _ (buffers : bufferRefusal (length job) i w l ≡ 0) (r : JobRead) (reading : JobReading job r) where
-    pub reading-refused : (r .number ≡ 0 → ⊥) → judgeJob job i w l ≡ plain (r .number)
+  module _ (buffers : bufferRefusal (length job) lent ≡ 0) (r : JobRead) (reading : JobReading job r) where
+    pub reading-refused : (r .number ≡ 0 → ⊥) → judgeJob job lent ≡ plain (r .number)
     unfolding judgeJob judgeReading
     reading-refused some = rw (buffers, reading .refused-as some)
 
-    pub reading-passed : r .number ≡ 0 → judgeJob job i w l ≡ judgeFields (fieldsIn job)
+    pub reading-passed : r .number ≡ 0 → judgeJob job lent ≡ judgeFields (fieldsIn job)
     unfolding judgeJob judgeReading fieldsOf
     reading-passed none = rw (buffers, reading .complete-as none)

@@ -1,110 +1,144 @@
--- What the refusals of a list and of the steps leave of an accepted job.
+-- What the refusals of rows and of a whole job leave of one that is accepted.
 use mathlib.Core.Path.{_≡_, refl, ap, sym, _∙_}
-use mathlib.Core.Bool.{Bool, true, false, cond}
+use mathlib.Core.Bool.{Bool, true, false, cond, not, _&&_, and-eq-true-iff}
 use mathlib.Core.List.{List, [], _∷_}
-use mathlib.Core.Logic.{_⊎_, ⊎-elim}
-use Prim.Native.Nat.{ℕ, suc, _-_, _≤_, _<_}
+use mathlib.Core.Logic.{⊎-elim}
+use Prim.Native.Nat.{ℕ, zero, suc, _+_, _≤_, _<_}
 use native.Mathlib.Nat.{eq-zero-or-pos}
+use native.Mathlib.Numerals.{add-one}
 use native.Mathlib.Omega.{arith}
-use borrow.Author.Tests.{eq-eqb, ne-eqb}
-use lib.Dec.{eqb}
-use lib.ListN.{length, getD}
-use Rattle.functions.specs.Words.{limit, capacityFits}
-use Rattle.functions.proofs.Legal.{passed, capacity-bounds, family-refusal-most}
-use Rattle.tables.specs.Table.{tableCapacity, counterexample}
-use Rattle.tables.specs.Check.{tableRefusal}
+use borrow.Author.Tests.{eq-eqb, ne-eqb, leb-true}
+use lib.Dec.{leb}
+use lib.ListN.{length, getD, drop, drop-of-length-le}
+use lib.Seq.{drop-cons}
 use Rattle.tables.specs.Promise.{Overshoots}
-use Rattle.tables.proofs.Promise.{counterexample-promise}
-use Rattle.fields.specs.Parts.{Field, Step, onFamily, onTable, jobKind, jobCapacity, jobSizes, jobSteps}
-use Rattle.jobs.specs.Chain.{capacityRefusal, stepScale, stepRefusal, ChainAccepted}
-use Rattle.jobs.specs.Sizes.{isKind, leastOf, sizesWithin, listRefusal}
-use Rattle.jobs.specs.Judge.{stepList, Refusal, judgeChain, stepEntries, entriesAt}
-use Rattle.jobs.specs.Job.{plain, judgeFields}
-use Rattle.jobs.proofs.SizeTests.{sizes-most}
+use Rattle.fields.specs.Bytes.{words}
+use Rattle.fields.specs.Parts.{Field, Step, Row, jobKind, jobCapacity, jobSizes, jobSteps, jobRows, coefficientCount}
+use Rattle.fields.specs.Grammar.{mostSizes, mostRows, rowsKind}
+use Rattle.fields.specs.Record.{spanBytes, noRow, rowIn}
+use Rattle.fields.specs.declared.RowPlace.{RowPlace}
+use Rattle.chains.specs.Chain.{TablesPass}
+use Rattle.chains.specs.Apply.{ChainAppliable}
+use Rattle.chains.specs.Judge.{Refusal, plain, judgeList, entriesAt, verdictOf, listBy, Judged}
+use Rattle.chains.specs.declared.Verdict.{Verdict}
+use Rattle.chains.proofs.Judged.{tables-pass, list-appliable, list-none, list-overshoots}
+use Rattle.jobs.specs.Kinds.{isKind, leastOf, rowsFit}
+use Rattle.jobs.specs.JudgeRows.{judgeRow, inRow, judgeRows}
+use Rattle.jobs.specs.Job.{judgeFields}
 
-chain-accepted : (steps : List Step) (c k : ℕ) → judgeChain c k steps .number ≡ 0 → ChainAccepted c steps
-unfolding judgeChain ChainAccepted
-chain-accepted [] c k e = Prim.tt
-chain-accepted (s ∷ steps) c k e =
-    ⊎-elim
-    (λ none. (none, chain-accepted steps (stepScale c s) (suc k) (rw (eq-eqb (stepRefusal c s) 0 none) at e)))
-    (λ some. absurd (omega (arith, rw (ne-eqb (stepRefusal c s) 0 (omega arith)) at e)))
-    (eq-zero-or-pos (stepRefusal c s))
+-- how many rows and coefficients 21 leaves
+pub fit-bounds : (rows coefficients : ℕ) → rowsFit rows coefficients ≡ true → (rows ≤ mostRows) × (coefficients ≤ mostSizes)
+unfolding rowsFit
+fit-bounds rows coefficients e =
+    let both = and-eq-true-iff (leb 1 rows && leb rows mostRows) (leb coefficients mostSizes) .0 e in
+    (leb-true rows mostRows (and-eq-true-iff (leb 1 rows) (leb rows mostRows) .0 (both .0) .1), leb-true coefficients mostSizes (both .1))
 
--- 11 at a step: the list that goes with it overshoots the step's table
-step-overshoots : (c : ℕ) (s : Step) → stepRefusal c s ≡ 11 → Overshoots (stepEntries s) (stepList 11 s)
-unfolding stepRefusal capacityRefusal stepEntries stepList
-step-overshoots c (onFamily family p q) e = absurd (omega (arith, e, family-refusal-most c family p q))
-step-overshoots c (onTable t) e = ⊎-elim (λ none. other (eqb (tableCapacity t) c) (rw (eq-eqb _ 0 none) at e)) (λ some. counterexample-promise t (length t) (tableCapacity t) (rw (ne-eqb (tableRefusal t (length t) (tableCapacity t)) 0 (omega arith)) at e)) (eq-zero-or-pos (tableRefusal t (length t) (tableCapacity t)))
-  where
-    other : (test : Bool) → _≡_ {A = ℕ} (cond test 0 18) 11 → Overshoots t (counterexample t)
-    other true e = absurd (omega arith)
-    other false e = absurd (omega arith)
+-- rows that are accepted are each accepted, and 11 in a row is 11 in a step
+module _ (S : List Step) where
+  row-passes : (k : ℕ) (r : Row) (rows : List Row) → judgeRow S r .number ≡ 0 → judgeRows k S (r ∷ rows) ≡ judgeRows (suc k) S rows
+  unfolding judgeRows
+  row-passes k r rows none = rw (eq-eqb _ 0 none)
 
--- the step that is refused stands behind the first k
-step-behind : (steps : List Step) (c k : ℕ) → judgeChain c k steps .number ≡ 11 → suc k ≤ judgeChain c k steps .step
-unfolding judgeChain
-step-behind [] c k e = absurd (omega arith)
-step-behind (s ∷ steps) c k e =
-    ⊎-elim
-    (λ none. rw (eq-eqb (stepRefusal c s) 0 none) (omega (arith, step-behind steps (stepScale c s) (suc k) (rw (eq-eqb (stepRefusal c s) 0 none) at e))))
-    (λ some. rw (ne-eqb (stepRefusal c s) 0 (omega arith)) (omega arith))
-    (eq-zero-or-pos (stepRefusal c s))
+  row-stops : (k : ℕ) (r : Row) (rows : List Row) → (judgeRow S r .number ≡ 0 → ⊥) → judgeRows k S (r ∷ rows) ≡ inRow (suc k) (judgeRow S r)
+  unfolding judgeRows
+  row-stops k r rows some = rw (ne-eqb _ 0 some)
 
-chain-overshoots : (steps : List Step) (c k : ℕ) → judgeChain c k steps .number ≡ 11 → Overshoots (stepEntries (getD steps (judgeChain c k steps .step - suc k) (onTable []))) (judgeChain c k steps .list)
-unfolding judgeChain
-chain-overshoots [] c k e = absurd (omega arith)
-chain-overshoots (s ∷ steps) c k e = ⊎-elim (later (chain-overshoots steps (stepScale c s) (suc k))) here (eq-zero-or-pos (stepRefusal c s))
-  where
-    later : (judgeChain (stepScale c s) (suc k) steps .number ≡ 11 → Overshoots (stepEntries (getD steps (judgeChain (stepScale c s) (suc k) steps .step - suc (suc k)) (onTable []))) (judgeChain (stepScale c s) (suc k) steps .list)) → stepRefusal c s ≡ 0 → Overshoots (stepEntries (getD (s ∷ steps) (judgeChain c k (s ∷ steps) .step - suc k) (onTable []))) (judgeChain c k (s ∷ steps) .list)
-    later next none =
-        let pass = eq-eqb (stepRefusal c s) 0 none in
-        let e′ : judgeChain (stepScale c s) (suc k) steps .number ≡ 11 = rw pass at e in
-        let place : judgeChain (stepScale c s) (suc k) steps .step - suc k ≡ suc (judgeChain (stepScale c s) (suc k) steps .step - suc (suc k)) = omega (arith, step-behind steps (stepScale c s) (suc k) e′) in
-        rw (pass, place) (next e′)
+  pub row-appliable : (r : Row) → judgeRow S r .number ≡ 0 → ChainAppliable (r .right-side) S (r .coefficients)
+  unfolding judgeRow
+  row-appliable r e = list-appliable 0 (r .right-side) (r .coefficients) S e
 
-    here : 0 < stepRefusal c s → Overshoots (stepEntries (getD (s ∷ steps) (judgeChain c k (s ∷ steps) .step - suc k) (onTable []))) (judgeChain c k (s ∷ steps) .list)
-    here some =
-        let stop = ne-eqb (stepRefusal c s) 0 (omega arith) in
-        let eleven : stepRefusal c s ≡ 11 = rw stop at e in
-        let first : suc k - suc k ≡ 0 = omega arith in
-        rw (stop, eleven, first) (step-overshoots c s eleven)
+  pub row-none : (r : Row) → judgeRow S r .number ≡ 0 → judgeRow S r ≡ plain 0
+  unfolding judgeRow
+  row-none r e = list-none 0 (r .right-side) (r .coefficients) S e
 
-pub refused-overshoots : (steps : List Step) (c : ℕ) → judgeChain c 0 steps .number ≡ 11 → Overshoots (entriesAt steps (judgeChain c 0 steps .step)) (judgeChain c 0 steps .list)
-unfolding entriesAt
-refused-overshoots steps c e = chain-overshoots steps c 0 e
+  -- a row judged as the list of its coefficients
+  pub row-judged : (job : List ℕ) (row : RowPlace) (k : ℕ) (list : List ℕ) (v : Verdict) (list′ : List ℕ) → Judged (judgeList 0 (row .capacity) (words (spanBytes job (row .coefficients))) S) list v list′ → Judged (inRow (suc k) (judgeRow S (rowIn job row))) list (record { number = v .number; row = k + 1; step = v .step; length = v .length }) list′
+  unfolding judgeRow rowIn inRow verdictOf listBy
+  row-judged job row k list v list′ j = record { verdict-is = rw (j .verdict-is, add-one k); list-is = j .list-is }
 
-pub record JobFine (fields : List Field) : Type 0 where
-  pub kind-is : isKind (jobKind fields) ≡ true
-  pub capacity-positive : 1 ≤ jobCapacity fields
-  pub capacity-within-limit : jobCapacity fields ≤ limit
-  pub within-capacity : (i : ℕ) → i < length (jobSizes fields) → getD (jobSizes fields) i 0 ≤ jobCapacity fields
-  pub chain : ChainAccepted (jobCapacity fields) (jobSteps fields)
-
-module _ (fields : List Field) where
-  -- the list is refused, or the steps decide
-  pub list-refused : (n : ℕ) → n ≡ listRefusal (jobKind fields) (jobCapacity fields) (jobSizes fields) → (n ≡ 0 → ⊥) → judgeFields fields ≡ plain n
-  unfolding judgeFields
-  list-refused n e some = rw (← e, ne-eqb n 0 some)
-
-  pub list-passed : listRefusal (jobKind fields) (jobCapacity fields) (jobSizes fields) ≡ 0 → judgeFields fields ≡ judgeChain (jobCapacity fields) 0 (jobSteps fields)
-  unfolding judgeFields
-  list-passed e = rw (eq-eqb _ 0 e)
-
-  pub job-fine : judgeFields fields .number ≡ 0 → JobFine fields
-  unfolding plain listRefusal
-  job-fine e = ⊎-elim passing (λ some. absurd (omega (arith, sym (ap (λ (r : Refusal). r .number) (list-refused _ refl (omega arith))) ∙ e))) (eq-zero-or-pos (listRefusal (jobKind fields) (jobCapacity fields) (jobSizes fields)))
+  pub rows-accepted : (rows : List Row) (k : ℕ) → judgeRows k S rows .number ≡ 0 → (i : ℕ) → i < length rows → judgeRow S (getD rows i noRow) .number ≡ 0
+  unfolding inRow
+  rows-accepted [] k e i l = absurd (omega arith)
+  rows-accepted (r ∷ rows) k e i l = ⊎-elim (λ none. go none (rows-accepted rows (suc k) (rw (row-passes k r rows none) at e)) i l) (λ some. absurd (omega (arith, ap (λ (f : Refusal). f .number) (row-stops k r rows (omega arith)), e))) (eq-zero-or-pos (judgeRow S r .number))
     where
-      passing : listRefusal (jobKind fields) (jobCapacity fields) (jobSizes fields) ≡ 0 → JobFine fields
-      passing none =
-          let one = passed (isKind (jobKind fields)) 16 _ (omega arith) none in
-          let two = passed (capacityFits (jobCapacity fields)) 1 _ (omega arith) (one .1) in
-          let three = passed (sizesWithin (leastOf (jobKind fields)) (jobCapacity fields) (jobSizes fields)) 17 0 (omega arith) (two .1) in
-          let bounds = capacity-bounds (jobCapacity fields) (two .0) in
+      go : judgeRow S r .number ≡ 0 → ((j : ℕ) → j < length rows → judgeRow S (getD rows j noRow) .number ≡ 0) → (i : ℕ) → i < suc (length rows) → judgeRow S (getD (r ∷ rows) i noRow) .number ≡ 0
+      go none next zero l = none
+      go none next (suc j) l = next j (omega arith)
+
+  pub rows-overshoot : (rows : List Row) (k : ℕ) → judgeRows k S rows .number ≡ 11 → Overshoots (entriesAt S (judgeRows k S rows .step)) (judgeRows k S rows .list)
+  unfolding judgeRows plain inRow judgeRow
+  rows-overshoot [] k e = absurd (omega arith)
+  rows-overshoot (r ∷ rows) k e =
+      ⊎-elim
+      (λ none. rw (eq-eqb (judgeRow S r .number) 0 none) (rows-overshoot rows (suc k) (rw (eq-eqb (judgeRow S r .number) 0 none) at e)))
+      (λ some. rw (ne-eqb (judgeRow S r .number) 0 (omega arith)) (list-overshoots 0 (r .right-side) (r .coefficients) S (rw (ne-eqb (judgeRow S r .number) 0 (omega arith)) at e)))
+      (eq-zero-or-pos (judgeRow S r .number))
+
+module _ (k : ℕ) (r : Refusal) (list : List ℕ) (v : Verdict) (list′ : List ℕ) (j : Judged (inRow k r) list v list′) where
+  pub row-number : v .number ≡ r .number
+  unfolding inRow verdictOf
+  row-number = ap (λ (u : Verdict). u .number) (j .verdict-is)
+
+  pub row-kept : r ≡ plain 0 → list′ ≡ list
+  unfolding inRow listBy plain
+  row-kept e = j .list-is ∙ rw e
+
+-- rows judged in order: those left decide, and behind the first no table has 8 to 11
+pub record RowsSoFar (S : List Step) (rows : List Row) (k : ℕ) : Type 0 where
+  pub verdict : judgeRows 0 S rows ≡ judgeRows k S (drop k rows)
+  pub tables : 0 < k → TablesPass S
+
+module _ (S : List Step) (rows : List Row) where
+  pub rows-start : RowsSoFar S rows 0
+  rows-start = record { verdict = refl; tables = λ some. absurd (omega arith) }
+
+  module _ (k : ℕ) (so : RowsSoFar S rows k) where
+    module _ (l : k < length rows) (r : Row) (is : getD rows k noRow ≡ r) where
+      here : judgeRows 0 S rows ≡ judgeRows k S (r ∷ drop (suc k) rows)
+      here = so .verdict ∙ ap (judgeRows k S) (drop-cons rows k noRow l ∙ ap (λ (x : Row). x ∷ drop (suc k) rows) is)
+
+      pub rows-refused : (judgeRow S r .number ≡ 0 → ⊥) → judgeRows 0 S rows ≡ inRow (suc k) (judgeRow S r)
+      rows-refused some = here ∙ row-stops S k r (drop (suc k) rows) some
+
+      pub rows-next : judgeRow S r .number ≡ 0 → RowsSoFar S rows (k + 1)
+      rows-next none =
           record {
-            kind-is = one .0;
-            capacity-positive = bounds .0;
-            capacity-within-limit = bounds .1;
-            within-capacity = sizes-most (leastOf (jobKind fields)) (jobCapacity fields) (jobSizes fields) (three .0);
-            chain = chain-accepted (jobSteps fields) (jobCapacity fields) 0 (sym (ap (λ (r : Refusal). r .number) (list-passed none)) ∙ e);
+            verdict = here ∙ row-passes S k r (drop (suc k) rows) none ∙ ap (λ (i : ℕ). judgeRows i S (drop i rows)) (sym (add-one k));
+            tables = λ _. tables-pass S (r .right-side) (row-appliable S r none .accepted);
           }
+
+    pub rows-done : length rows ≤ k → judgeRows 0 S rows ≡ plain 0
+    unfolding judgeRows
+    rows-done l = so .verdict ∙ ap (judgeRows k S) (drop-of-length-le rows {i = k} l)
+
+-- a whole job: refused by 16 or 21, or by its list or its rows
+module _ (fields : List Field) where
+  pub kind-refused : isKind (jobKind fields) ≡ false → judgeFields fields ≡ plain 16
+  unfolding judgeFields
+  kind-refused e = rw e
+
+  module _ (kind : jobKind fields ≡ rowsKind) where
+    pub rows-kind : judgeFields fields ≡ cond (not (rowsFit (length (jobRows fields)) (coefficientCount (jobRows fields)))) (plain 21) (judgeRows 0 (jobSteps fields) (jobRows fields))
+    unfolding judgeFields isKind
+    rows-kind = rw kind
+
+    pub rows-fine : judgeFields fields .number ≡ 0 → (rowsFit (length (jobRows fields)) (coefficientCount (jobRows fields)) ≡ true) × (judgeRows 0 (jobSteps fields) (jobRows fields) .number ≡ 0)
+    unfolding plain
+    rows-fine e = go (rowsFit (length (jobRows fields)) (coefficientCount (jobRows fields))) refl (sym (ap (λ (r : Refusal). r .number) rows-kind) ∙ e)
+      where
+        go : (test : Bool) → rowsFit (length (jobRows fields)) (coefficientCount (jobRows fields)) ≡ test → cond (not test) (plain 21) (judgeRows 0 (jobSteps fields) (jobRows fields)) .number ≡ 0 → (rowsFit (length (jobRows fields)) (coefficientCount (jobRows fields)) ≡ true) × (judgeRows 0 (jobSteps fields) (jobRows fields) .number ≡ 0)
+        go true fits none = (fits, none)
+        go false fits none = absurd (omega (arith, none))
+
+  module _ (kind : jobKind fields ≡ rowsKind → ⊥) where
+    pub list-kind : isKind (jobKind fields) ≡ true → judgeFields fields ≡ judgeList (leastOf (jobKind fields)) (jobCapacity fields) (jobSizes fields) (jobSteps fields)
+    unfolding judgeFields
+    list-kind e = rw (e, ne-eqb (jobKind fields) rowsKind kind)
+
+    pub list-fine : judgeFields fields .number ≡ 0 → ChainAppliable (jobCapacity fields) (jobSteps fields) (jobSizes fields)
+    unfolding plain
+    list-fine e = go (isKind (jobKind fields)) refl
+      where
+        go : (test : Bool) → isKind (jobKind fields) ≡ test → ChainAppliable (jobCapacity fields) (jobSteps fields) (jobSizes fields)
+        go true is = list-appliable _ _ _ _ (sym (ap (λ (r : Refusal). r .number) (list-kind is)) ∙ e)
+        go false is = absurd (omega (arith, ap (λ (r : Refusal). r .number) (kind-refused is), e))

@@ -1,11 +1,7 @@
-pub mod Chains
 pub mod Packings
-pub mod SizeTests
-pub mod Judging
-pub mod Present
-pub mod Applying
-pub mod Judged
 pub mod Outside
+pub mod Judged
+pub mod Writing
 pub mod Finishing
 pub mod Answering
 pub mod Accepted

@@ -18,10 +18,10 @@ use Rattle.functions.proofs.Mapped.{map-append}
 use Rattle.functions.proofs.Quotient.{up-zero, up-least}
 use Rattle.functions.proofs.Summed.{total-most}
 use Rattle.fields.specs.Parts.{Step}
-use Rattle.jobs.specs.Chain.{chainImage, chainScale, ChainAccepted, chainFloor}
+use Rattle.chains.specs.Chain.{chainImage, chainScale, ChainAccepted, chainFloor}
 use Rattle.jobs.specs.Packing.{load, Fits, member, distinct, binsUsed, weighted, ChainPromise}
 use Rattle.jobs.specs.Rows.{PackingRows}
-use Rattle.jobs.proofs.Chains.{chain-promise}
+use Rattle.chains.proofs.Chains.{chain-promise}
 
 pub packing-rows : PackingRows
 unfolding load member distinct binsUsed weighted

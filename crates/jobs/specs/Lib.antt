@@ -1,7 +1,5 @@
-pub mod Chain
 pub mod Packing
 pub mod Rows
-pub mod Sizes
-pub mod Judge
-pub mod Apply
+pub mod Kinds
+pub mod JudgeRows
 pub mod Job

@@ -6,7 +6,7 @@ use Prim.Native.Nat.{ℕ, _+_, _*_, _≤_}
 use lib.Dec.{eqb}
 use lib.ListN.{length}
 use Rattle.fields.specs.Parts.{Step}
-use Rattle.jobs.specs.Chain.{chainImage, chainScale, chainFloor}
+use Rattle.chains.specs.Chain.{chainImage, chainScale, chainFloor}
 
 -- the total of the sizes that a packing puts into bin b; the packing has a bin for each size
 unfoldable pub load : ℕ → List ℕ → List ℕ → ℕ

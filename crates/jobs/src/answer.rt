@@ -1,24 +1,36 @@
 // A job that was read: judged, and only then applied.
 use crate::JobAnswer;
 use crate::LIST_PLACES;
-use crate::apply;
-use crate::judge;
-use crate::list;
+use crate::rows;
 ghost use mathlib.Core.Path.{_≡_};
+ghost use mathlib.Core.List.{_++_};
 ghost use Prim.Native.Nat.{_≤_};
-ghost use lib.ListN.{length};
-ghost use Rattle.fields.specs.Bytes.{words};
-ghost use Rattle.fields.specs.Parts.{jobCapacity, jobSteps};
-ghost use Rattle.fields.specs.Grammar.{mostSizes};
-ghost use Rattle.fields.specs.Record.{SpanWithin, spanBytes, PartsOf};
-ghost use Rattle.jobs.specs.Chain.{chainScale};
-ghost use Rattle.jobs.specs.Job.{fieldsIn, judgeFields, jobImages, acceptedAnswer, bufferRefusal, Answered};
-ghost use Rattle.jobs.specs.Judge.{CheckRoom};
-ghost use Rattle.jobs.specs.Sizes.{isKind, leastOf, listRefusal};
+ghost use lib.ListN.{length, drop};
+ghost use Rattle.fields.specs.Parts.{jobKind};
+ghost use Rattle.fields.specs.Grammar.{mostSizes, mostRows, rowsKind};
+ghost use Rattle.fields.specs.Record.{PartsOf, Stand};
+ghost use Rattle.jobs.specs.Job.{
+  fieldsIn,
+  judgeFields,
+  jobImages,
+  acceptedAnswer,
+  bufferRefusal,
+  Finished,
+  Answered,
+};
+ghost use Rattle.chains.specs.Judge.{Judged, CheckRoom};
+ghost use Rattle.jobs.specs.Kinds.{isKind, leastOf};
 
 // Refusals 12 and 7.
-pub(crate) fn refuse_buffers(bytes: usize, images: usize, working: usize, list: usize) -> u64
-    ensures { λ r. ⌜ r ≡ bufferRefusal bytes images working list ⌝ }
+pub(crate) fn refuse_buffers(
+    bytes: usize,
+    images: usize,
+    working: usize,
+    list: usize,
+    scales: usize,
+) -> u64
+    ensures { λ r. ⌜ r ≡ bufferRefusal bytes
+        (record { images = images; working = working; list = list; scales = scales }) ⌝ }
 {
     if fields::MOST_BYTES < bytes {
         return 12;
@@ -32,6 +44,9 @@ pub(crate) fn refuse_buffers(bytes: usize, images: usize, working: usize, list: 
     if list < LIST_PLACES {
         return 7;
     }
+    if scales < fields::MOST_ROWS {
+        return 7;
+    }
     0
 }
 
@@ -41,7 +56,10 @@ fn is_kind(kind: u8) -> bool
     if kind == 1 {
         return true;
     }
-    kind == 2
+    if kind == 2 {
+        return true;
+    }
+    kind == fields::ROWS_KIND
 }
 
 fn least_of(kind: u8) -> u64
@@ -53,44 +71,27 @@ fn least_of(kind: u8) -> u64
     0
 }
 
-// Refusals 16, 1 and 17.
-fn refuse_list(job: &[u8], kind: u8, capacity: u64, sizes: fields::Span) -> u64
-    requires { ⌜ SpanWithin (now job) sizes ⌝ }
-    ensures { λ r. ⌜ r ≡ listRefusal kind capacity (words (spanBytes (now (job .entry)) sizes)) ⌝ }
-{
-    if !is_kind(kind) {
-        return 16;
-    }
-    if !functions::capacity_fits(capacity) {
-        return 1;
-    }
-    let least = least_of(kind);
-    let n = sizes.n;
-    if !list::sizes_within(fields::span_bytes(job, sizes), n, least, capacity) {
-        return 17;
-    }
-    0
-}
-
-pub(crate) fn refused(number: u64, step: u64, length: u64) -> JobAnswer
+pub(crate) fn refused(verdict: chains::Verdict) -> JobAnswer
     ensures { λ r. ⌜ r ≡ record {
-      number = number;
+      number = verdict .number;
       n = 0;
       floor = 0;
       sum = 0;
       scale = 0;
-      step = step;
-      length = length;
+      step = verdict .step;
+      length = verdict .length;
+      row = verdict .row;
     } ⌝ }
 {
     JobAnswer {
-        number,
+        number: verdict.number,
         n: 0,
         floor: 0,
         sum: 0,
         scale: 0,
-        step,
-        length,
+        step: verdict.step,
+        length: verdict.length,
+        row: verdict.row,
     }
 }
 
@@ -103,6 +104,7 @@ fn accepted(n: u64, floor: u64, sum: u64, scale: u64) -> JobAnswer
       scale = scale;
       step = 0;
       length = 0;
+      row = 0;
     } ⌝ }
 {
     JobAnswer {
@@ -113,26 +115,76 @@ fn accepted(n: u64, floor: u64, sum: u64, scale: u64) -> JobAnswer
         scale,
         step: 0,
         length: 0,
+        row: 0,
     }
 }
 
-// The images and the answer of an accepted job; `images` has as many places as the job has sizes.
-fn finish(job: &[u8], parts: fields::JobParts, scale: u64, images: &mut [u32]) -> JobAnswer
+// The job judged by its parts: its kind, and then its list or its rows.
+fn judge_parts(
+    job: &[u8],
+    parts: fields::JobParts,
+    working: &mut [u64],
+    list: &mut [u32],
+) -> chains::Verdict
+    requires { ⌜ PartsOf (now job) (fieldsIn (now job)) parts
+        × Stand (now job) 0 (fieldsIn (now job)) (length (now job)) × CheckRoom (now working) (now list) ⌝ }
+    ensures { λ r. ⌜ Judged (judgeFields (fieldsIn (now (job .entry)))) (now (list .entry)) r (now (list .exit)) ⌝ }
+{
+    let kind = parts.kind;
+    if !is_kind(kind) {
+        return chains::judge::plain(16);
+    }
+    let steps = parts.steps;
+    if kind == fields::ROWS_KIND {
+        return rows::judge_all(job, steps, parts.rows, parts.coefficients, working, list);
+    }
+    let least = least_of(kind);
+    let capacity = parts.capacity;
+    chains::judge::judge_list(
+        job,
+        steps,
+        capacity,
+        parts.sizes,
+        least,
+        false,
+        working,
+        list,
+    )
+}
+
+// The images and the answer of an accepted list; `images` has as many places as the job has sizes.
+fn finish_list(job: &[u8], parts: fields::JobParts, images: &mut [u32]) -> JobAnswer
     requires { ⌜ PartsOf (now job) (fieldsIn (now job)) parts × (judgeFields (fieldsIn (now job)) .number ≡ 0)
-        × (scale ≡ chainScale (jobCapacity (fieldsIn (now job))) (jobSteps (fieldsIn (now job))))
-        × (length (now images) ≡ parts .sizes .n) ⌝ }
+        × (jobKind (fieldsIn (now job)) ≡ rowsKind → ⊥) × (length (now images) ≡ parts .sizes .n) ⌝ }
     ensures { λ r. ⌜ (r ≡ acceptedAnswer (fieldsIn (now (job .entry))))
         × (now (images .exit) ≡ jobImages (fieldsIn (now (job .entry)))) ⌝ }
 {
     let steps = parts.steps;
-    fields::words::decode_words(fields::span_bytes(job, parts.sizes), images);
-    apply::apply_steps(job, steps, parts.capacity, images);
+    let scale = chains::apply::map_list(job, steps, parts.capacity, parts.sizes, images);
     let n = images.len() as u64;
     if parts.kind == 1 {
-        let sum = list::sum_of(images);
+        let sum = chains::list::sum_of(images);
         return accepted(n, functions::round_up(sum, scale), sum, scale);
     }
     accepted(n, 0, 0, scale)
+}
+
+// The images and the answer of an accepted job.
+fn finish(job: &[u8], parts: fields::JobParts, images: &mut [u32], scales: &mut [u32]) -> JobAnswer
+    requires { ⌜ PartsOf (now job) (fieldsIn (now job)) parts
+        × Stand (now job) 0 (fieldsIn (now job)) (length (now job))
+        × (judgeFields (fieldsIn (now job)) .number ≡ 0)
+        × (mostSizes ≤ length (now images)) × (mostRows ≤ length (now scales)) ⌝ }
+    ensures { λ r. ⌜ Finished (fieldsIn (now (job .entry))) (now (images .entry)) (now (scales .entry)) r
+        (now (images .exit)) (now (scales .exit)) ⌝ }
+{
+    if parts.kind == fields::ROWS_KIND {
+        let steps = parts.steps;
+        rows::write_rows(job, steps, parts.rows, images, scales);
+        return accepted(parts.coefficients as u64, 0, 0, 0);
+    }
+    let n = parts.sizes.n;
+    finish_list(job, parts, &mut images[..n])
 }
 
 // The job judged by its parts, and applied where nothing refuses it.
@@ -142,22 +194,20 @@ pub(crate) fn answer_parts(
     images: &mut [u32],
     working: &mut [u64],
     list: &mut [u32],
+    scales: &mut [u32],
 ) -> JobAnswer
-    requires { ⌜ PartsOf (now job) (fieldsIn (now job)) parts × (mostSizes ≤ length (now images))
+    requires { ⌜ PartsOf (now job) (fieldsIn (now job)) parts
+        × Stand (now job) 0 (fieldsIn (now job)) (length (now job))
+        × (mostSizes ≤ length (now images)) × (mostRows ≤ length (now scales))
         × CheckRoom (now working) (now list) ⌝ }
     ensures answered { λ r. ⌜ Answered (judgeFields (fieldsIn (now (job .entry)))) (fieldsIn (now (job .entry)))
-        (now (images .entry)) (now (list .entry)) r (now (images .exit)) (now (list .exit)) ⌝ }
+        (now (images .entry)) (now (list .entry)) (now (scales .entry)) r
+        (now (images .exit)) (now (list .exit)) (now (scales .exit)) ⌝ }
     ensures working { λ _. ⌜ length (now (working .exit)) ≡ length (now (working .entry)) ⌝ }
 {
-    let number = refuse_list(job, parts.kind, parts.capacity, parts.sizes);
-    if number != 0 {
-        return refused(number, 0, 0);
-    }
-    let steps = parts.steps;
-    let verdict = judge::judge_steps(job, steps, parts.capacity, working, list);
+    let verdict = judge_parts(job, parts, working, list);
     if verdict.number != 0 {
-        return refused(verdict.number, verdict.step, verdict.length);
+        return refused(verdict);
     }
-    let n = parts.sizes.n;
-    finish(job, parts, verdict.scale, &mut images[..n])
+    finish(job, parts, images, scales)
 }

@@ -1,37 +1,21 @@
-// The job operation: a chain of steps over a list of sizes or a row, and its lower bound on bins or its cut.
+// The job operation: a chain of steps over a list of sizes, a row or many rows, and its lower bound on
+// bins or its cuts.
 mod answer;
-mod apply;
-mod judge;
-mod list;
+mod rows;
 
 ghost use mathlib.Core.Path.{_≡_};
 ghost use lib.ListN.{length, take};
 ghost use Rattle.tables.specs.Promise.{Overshoots};
 ghost use Rattle.fields.specs.Parts.{jobSteps};
-ghost use Rattle.jobs.specs.Job.{fieldsIn, jobAnswer, imagesAfter, listAfterJob, JobSafe};
-ghost use Rattle.jobs.specs.Judge.{entriesAt};
+ghost use Rattle.jobs.specs.Job.{fieldsIn, placesOf, jobAnswer, imagesAfter, listAfterJob, scalesAfter, JobSafe};
+ghost use Rattle.chains.specs.Judge.{entriesAt};
 
 // The least places of a list buffer: a counterexample has at most as many sizes as its table's capacity.
 pub const LIST_PLACES: usize = tables::MOST_ENTRIES - 1;
 
-// A step judged: the number that refuses it, or 0 with its scale; at 11 the length of the list.
-pub struct StepAnswer {
-    pub number: u64,
-    pub scale: u64,
-    pub length: u64,
-}
-
-// The steps of a job judged: the number, place and list length of the first that is refused, or the
-// scale of the whole chain.
-pub struct Verdict {
-    pub number: u64,
-    pub step: u64,
-    pub scale: u64,
-    pub length: u64,
-}
-
-// The answer to a job: the number that refuses it, or 0 with the number of sizes, the lower bound on
-// bins, the sum of images and the scale; the place of a refused step, and the length of the list.
+// The answer to a job: the number that refuses it, or 0 with the number of sizes or coefficients, the
+// lower bound on bins, the sum of images and the scale; the place of a refused step, the length of the
+// list, and the place of a refused row.
 #[repr(C)]
 pub struct JobAnswer {
     pub number: u64,
@@ -41,37 +25,52 @@ pub struct JobAnswer {
     pub scale: u64,
     pub step: u64,
     pub length: u64,
+    pub row: u64,
 }
 
 // The job operation: a job is judged whole before any image is written. `images` has at least
-// MOST_SIZES places, `working` as many as the longest table, and `list` one less.
+// MOST_SIZES places, `working` as many as the longest table, `list` one less, and `scales` a place for
+// each row.
 #[no_mangle]
 pub extern "C" fn windowfloor_job(
     job: &[u8],
     images: &mut [u32],
     working: &mut [u64],
     list: &mut [u32],
+    scales: &mut [u32],
 ) -> JobAnswer
-    ensures answer { λ r. ⌜ r ≡ jobAnswer (now (job .entry)) (length (now (images .entry)))
-        (length (now (working .entry))) (length (now (list .entry))) ⌝ }
-    ensures images { λ _. ⌜ now (images .exit) ≡ imagesAfter (now (job .entry)) (now (images .entry))
-        (length (now (working .entry))) (length (now (list .entry))) ⌝ }
-    ensures list { λ _. ⌜ now (list .exit) ≡ listAfterJob (now (job .entry)) (length (now (images .entry)))
-        (length (now (working .entry))) (now (list .entry)) ⌝ }
+    ensures answer { λ r. ⌜ r ≡ jobAnswer (now (job .entry))
+        (placesOf (now (images .entry)) (now (working .entry)) (now (list .entry)) (now (scales .entry))) ⌝ }
+    ensures images { λ _. ⌜ now (images .exit) ≡ imagesAfter (now (job .entry))
+        (placesOf (now (images .entry)) (now (working .entry)) (now (list .entry)) (now (scales .entry)))
+        (now (images .entry)) ⌝ }
+    ensures list { λ _. ⌜ now (list .exit) ≡ listAfterJob (now (job .entry))
+        (placesOf (now (images .entry)) (now (working .entry)) (now (list .entry)) (now (scales .entry)))
+        (now (list .entry)) ⌝ }
+    ensures scales { λ _. ⌜ now (scales .exit) ≡ scalesAfter (now (job .entry))
+        (placesOf (now (images .entry)) (now (working .entry)) (now (list .entry)) (now (scales .entry)))
+        (now (scales .entry)) ⌝ }
     ensures working { λ _. ⌜ length (now (working .exit)) ≡ length (now (working .entry)) ⌝ }
     ensures overshoots { λ r. ⌜ (r .number ≡ 11 →
         Overshoots (entriesAt (jobSteps (fieldsIn (now (job .entry)))) (r .step))
         (take (r .length) (now (list .exit)))) ⌝ }
-    ensures safe { λ r. ⌜ (r .number ≡ 0 → JobSafe (now (job .entry)) r (now (images .exit))) ⌝ }
+    ensures safe { λ r. ⌜ (r .number ≡ 0 →
+        JobSafe (now (job .entry)) r (now (images .exit)) (now (scales .exit))) ⌝ }
 {
-    let number = answer::refuse_buffers(job.len(), images.len(), working.len(), list.len());
+    let number = answer::refuse_buffers(
+        job.len(),
+        images.len(),
+        working.len(),
+        list.len(),
+        scales.len(),
+    );
     if number != 0 {
-        return answer::refused(number, 0, 0);
+        return answer::refused(chains::judge::plain(number));
     }
     let read = fields::read_job(job);
     if read.number != 0 {
-        return answer::refused(read.number, 0, 0);
+        return answer::refused(chains::judge::plain(read.number));
     }
     let parts = read.parts;
-    answer::answer_parts(job, parts, images, working, list)
+    answer::answer_parts(job, parts, images, working, list, scales)
 }

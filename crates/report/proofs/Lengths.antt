@@ -2,16 +2,21 @@
 use mathlib.Core.Path.{_≡_, ap, _∙_}
 use mathlib.Core.Logic.{⊎-elim}
 use mathlib.Core.Bool.{Bool, true, false, cond}
-use mathlib.Core.List.{List, [], _∷_, _++_}
+use mathlib.Core.List.{List, [], _∷_, _++_, map, append-assoc}
 use Prim.Native.Nat.{ℕ, zero, suc, _+_, _*_, _/_, _^_, _≤_, _<_}
 use native.Mathlib.Nat.{eq-zero-or-pos, pow-suc}
 use native.Mathlib.Omega.{arith}
 use lib.Dec.{eqb}
 use lib.ListN.{length, getD, take, length-append, length-take}
+use lib.Seq.{getD-append-add}
 use Rattle.tables.specs.Check.{mostEntries}
-use Rattle.fields.specs.Grammar.{mostSizes}
+use Rattle.fields.specs.Parts.{Step, Row, coefficientCount}
+use Rattle.fields.specs.Grammar.{mostSizes, rowsKind}
+use Rattle.jobs.specs.Job.{rowImages, rowScale, rowsImages}
 use Rattle.jobs.specs.declared.JobAnswer.{JobAnswer}
-use Rattle.report.specs.Text.{mostDigits, decimal, valuesText, line, floorWord, sumWord, scaleWord, imagesWord, refusedWord, listWord, floorText, acceptedText, refusedText, mostText}
+use Rattle.jobs.proofs.Writing.{row-count}
+use Rattle.report.specs.Text.{mostDigits, decimal, valuesText, line, floorWord, sumWord, scaleWord, imagesWord, refusedWord, listWord, floorText, cutText, acceptedText, rowsText, rowValues, refusedText, mostText}
+use Rattle.report.specs.Answer.{refusalOf}
 use Rattle.report.proofs.Decimals.{lead, lead-none, lead-some, last-digit}
 
 digits-more : (n : ℕ) → length (decimal n) ≡ length (lead (n / 10)) + 1
@@ -62,30 +67,79 @@ floor-length kind answer f s = go (eqb kind 1)
     go true = omega (arith, length-append (line floorWord (answer .floor ∷ [])) (line sumWord (answer .sum ∷ [])), number-length floorWord _ f, number-length sumWord _ s)
     go false = omega arith
 
+cut-length : (scale : ℕ) (images : List ℕ) (n most : ℕ) → scale < 2 ^ 64 → length images ≤ most → ((i : ℕ) → getD images i 0 < 2 ^ 32) → length (cutText scale (take n images)) ≤ 34 + 11 * most
+unfolding cutText
+cut-length scale images n most e l small =
+    omega (arith, length-append (line scaleWord (scale ∷ [])) (line imagesWord (take n images)), number-length scaleWord scale e, list-length imagesWord images n most l small)
+
 pub accepted-length : (kind : ℕ) (answer : JobAnswer) (images : List ℕ) → answer .floor < 2 ^ 64 → answer .sum < 2 ^ 64 → answer .scale < 2 ^ 64 → length images ≤ mostSizes → ((i : ℕ) → getD images i 0 < 2 ^ 32) → length (acceptedText kind answer (take (answer .n) images)) ≤ mostText
 unfolding acceptedText
 accepted-length kind answer images f s e l small =
     omega (
       arith,
-      length-append (floorText kind answer) (line scaleWord (answer .scale ∷ []) ++ line imagesWord (take (answer .n) images)),
-      length-append (line scaleWord (answer .scale ∷ [])) (line imagesWord (take (answer .n) images)),
+      length-append (floorText kind answer) (cutText (answer .scale) (take (answer .n) images)),
       floor-length kind answer f s,
-      number-length scaleWord _ e,
-      list-length imagesWord images (answer .n) mostSizes l small,
+      cut-length (answer .scale) images (answer .n) mostSizes e l small,
     )
 
-pub refused-length : (number step n : ℕ) (list : List ℕ) → number < 2 ^ 64 → step < 2 ^ 64 → length list ≤ mostEntries → ((i : ℕ) → getD list i 0 < 2 ^ 32) → length (refusedText number step (take n list)) ≤ mostText
-unfolding refusedText
-refused-length number step n list m s l small = omega (arith, length-append (line refusedWord (number ∷ step ∷ [])) (cond (eqb number 11) (line listWord (take n list)) []), first, second (eqb number 11))
+-- the cut of a row, of numbers of 32 bits
+row-length : (scale : ℕ) (images : List ℕ) → scale < 2 ^ 32 → ((i : ℕ) → getD images i 0 < 2 ^ 32) → length (cutText scale images) ≤ 24 + 11 * length images
+unfolding cutText
+row-length scale images e small =
+    omega (
+      arith,
+      length-append (line scaleWord (scale ∷ [])) (line imagesWord images),
+      line-length scaleWord (scale ∷ []),
+      values-length 9 (scale ∷ []) first,
+      line-length imagesWord images,
+      values-length 9 images (λ i. omega (arith, small i)),
+    )
   where
-    both : (i : ℕ) → getD (number ∷ step ∷ []) i 0 < 10 ^ mostDigits
-    both zero = omega arith
-    both (suc zero) = omega arith
-    both (suc (suc i)) = omega arith
+    first : (i : ℕ) → getD (scale ∷ []) i 0 < 10 ^ 10
+    first zero = omega arith
+    first (suc i) = omega arith
 
-    first : length (line refusedWord (number ∷ step ∷ [])) ≤ 50
-    first = omega (arith, line-length refusedWord (number ∷ step ∷ []), values-length 19 (number ∷ step ∷ []) both)
+-- numbers of two lists one behind the other are those of each
+first-small : (a b : List ℕ) (most : ℕ) → 0 < most → ((i : ℕ) → getD (a ++ b) i 0 < most) → (i : ℕ) → getD a i 0 < most
+first-small [] b most l small i = omega arith
+first-small (x ∷ a) b most l small zero = small 0
+first-small (x ∷ a) b most l small (suc i) = first-small a b most l (λ j. small (suc j)) i
 
-    second : (b : Bool) → length (cond b (line listWord (take n list)) []) ≤ 22600
-    second true = omega (arith, list-length listWord list n mostEntries l small)
+behind-small : (a b : List ℕ) (most : ℕ) → ((i : ℕ) → getD (a ++ b) i 0 < most) → (i : ℕ) → getD b i 0 < most
+behind-small a b most small i = rw (getD-append-add a b i 0) at (small (length a + i))
+
+pub rows-length : (S : List Step) (rows : List Row) (images scales : List ℕ) → ((i : ℕ) → getD (rowsImages S rows ++ images) i 0 < 2 ^ 32) → ((i : ℕ) → getD (map (rowScale S) rows ++ scales) i 0 < 2 ^ 32) → length (rowsText S rows) ≤ 24 * length rows + 11 * coefficientCount rows
+unfolding rowsText rowsImages coefficientCount
+rows-length S [] images scales small scaled = omega arith
+rows-length S (r ∷ rows) images scales small scaled =
+    let apart : (i : ℕ) → getD (rowImages S r ++ (rowsImages S rows ++ images)) i 0 < 2 ^ 32 = λ i. rw (append-assoc (rowImages S r) (rowsImages S rows) images) at (small i) in
+    omega (
+      arith,
+      length-append (cutText (rowScale S r) (rowImages S r)) (rowsText S rows),
+      row-length (rowScale S r) (rowImages S r) (scaled 0) (first-small (rowImages S r) (rowsImages S rows ++ images) (2 ^ 32) (omega arith) apart),
+      row-count S r,
+      rows-length S rows images scales (behind-small (rowImages S r) (rowsImages S rows ++ images) (2 ^ 32) apart) (λ i. scaled (suc i)),
+    )
+
+pub refused-length : (fourth : ℕ) (answer : JobAnswer) (list : List ℕ) → answer .number < 2 ^ 64 → answer .row < 2 ^ 64 → answer .step < 2 ^ 64 → length list ≤ mostEntries → ((i : ℕ) → getD list i 0 < 2 ^ 32) → length (refusedText fourth (refusalOf answer list)) ≤ mostText
+unfolding refusedText refusalOf rowValues
+refused-length fourth answer list m r s l small = omega (arith, length-append (line refusedWord (answer .number ∷ (rowValues fourth (answer .row) ++ (answer .step ∷ [])))) (cond (eqb (answer .number) 11) (line listWord (take (answer .length) list)) []), first (eqb fourth rowsKind), second (eqb (answer .number) 11))
+  where
+    three : (i : ℕ) → getD (answer .number ∷ answer .row ∷ answer .step ∷ []) i 0 < 10 ^ mostDigits
+    three zero = omega arith
+    three (suc zero) = omega arith
+    three (suc (suc zero)) = omega arith
+    three (suc (suc (suc i))) = omega arith
+
+    two : (i : ℕ) → getD (answer .number ∷ answer .step ∷ []) i 0 < 10 ^ mostDigits
+    two zero = omega arith
+    two (suc zero) = omega arith
+    two (suc (suc i)) = omega arith
+
+    first : (b : Bool) → length (line refusedWord (answer .number ∷ (cond b (answer .row ∷ []) [] ++ (answer .step ∷ [])))) ≤ 71
+    first true = omega (arith, line-length refusedWord (answer .number ∷ answer .row ∷ answer .step ∷ []), values-length 19 (answer .number ∷ answer .row ∷ answer .step ∷ []) three)
+    first false = omega (arith, line-length refusedWord (answer .number ∷ answer .step ∷ []), values-length 19 (answer .number ∷ answer .step ∷ []) two)
+
+    second : (b : Bool) → length (cond b (line listWord (take (answer .length) list)) []) ≤ 22600
+    second true = omega (arith, list-length listWord list (answer .length) mostEntries l small)
     second false = omega arith

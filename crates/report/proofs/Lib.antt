@@ -2,5 +2,6 @@ pub mod Puts
 pub mod Decimals
 pub mod Values
 pub mod Texts
+pub mod RowTexts
 pub mod Answered
 pub mod Lengths

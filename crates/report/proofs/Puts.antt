@@ -81,3 +81,9 @@ put-all bytes i p l = rw (take-all i bytes l) at p
 -- a buffer into which a text was put from its start on
 pub put-whole : {old text new : List ℕ} {r : ℕ} → Put old 0 text new r → new ≡ take r text ++ drop r old
 put-whole {old} {text} {new} {r} p = p .holds ∙ stored-whole old text r (p .next-is ∙ omega arith)
+
+-- a place behind the end has the default
+pub behind-end : (l : List ℕ) (i : ℕ) → length l ≤ i → getD l i 0 ≡ 0
+behind-end [] i h = refl
+behind-end (x ∷ l) zero h = absurd (omega arith)
+behind-end (x ∷ l) (suc i) h = behind-end l i (omega arith)

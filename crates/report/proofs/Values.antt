@@ -44,5 +44,6 @@ line-put word values p q r = put-then p (put-then q r)
 pub value-put : {old new : List ℕ} {at next : ℕ} (v : ℕ) → Put old at (32 ∷ decimal v) new next → Put old at (valuesText (v ∷ [])) new next
 value-put v p = rw (values-one v) p
 
-pub values-two : {old out new : List ℕ} {at next end : ℕ} (v w : ℕ) → Put old at (32 ∷ decimal v) out next → Put out next (32 ∷ decimal w) new end → Put old at (valuesText (v ∷ w ∷ [])) new end
-values-two v w p q = rw (values-append (v ∷ []) (w ∷ []), values-one v, values-one w) (put-then p q)
+pub values-three : {old a b new : List ℕ} {at i j end : ℕ} (v : ℕ) (values : List ℕ) (w : ℕ) → Put old at (32 ∷ decimal v) a i → Put a i (valuesText values) b j → Put b j (32 ∷ decimal w) new end → Put old at (valuesText (v ∷ (values ++ (w ∷ [])))) new end
+values-three v values w p q r =
+    rw (values-append (v ∷ []) (values ++ (w ∷ [])), values-append values (w ∷ []), values-one v, values-one w) (put-then p (put-then q r))

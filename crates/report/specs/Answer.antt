@@ -1,36 +1,58 @@
 -- What the functions that print an answer ask and leave. The kind that an accepted job has is its fourth byte.
 use mathlib.Core.Bool.{cond}
 use mathlib.Core.Path.{_≡_}
-use mathlib.Core.List.{List}
+use mathlib.Core.List.{List, _++_, map}
 use Prim.Native.Nat.{ℕ, _-_, _≤_, _<_}
 use lib.Dec.{eqb}
-use lib.ListN.{length, getD, take}
+use lib.ListN.{length, take}
 use Rattle.tables.specs.Check.{mostEntries}
-use Rattle.fields.specs.Grammar.{mostSizes}
+use Rattle.fields.specs.Parts.{jobSteps, jobRows, coefficientCount}
+use Rattle.fields.specs.Grammar.{mostSizes, mostRows, rowsKind}
+use Rattle.fields.specs.Reading.{complete, jobFields}
+use Rattle.chains.specs.Judge.{Refusal}
+use Rattle.jobs.specs.Job.{fieldsIn, rowScale, rowsImages}
 use Rattle.jobs.specs.declared.JobAnswer.{JobAnswer}
 use Rattle.report.specs.Put.{Put}
-use Rattle.report.specs.Text.{acceptedText, refusedText, mostText}
+use Rattle.report.specs.Text.{acceptedText, rowsText, refusedText, fourthByte, mostText}
 
 -- lent buffers of the least lengths that 7 lets pass
-pub record Lent (images working list : List ℕ) : Type 0 where
+pub record Lent (images working list scales : List ℕ) : Type 0 where
   pub images-places : length images ≡ mostSizes
   pub working-places : length working ≡ mostEntries
   pub list-places : length list ≡ mostEntries - 1
+  pub scales-places : length scales ≡ mostRows
+
+-- the buffers hold the images and scales of the job's rows, and something behind them
+pub record RowsHeld (job images scales : List ℕ) : Type 0 where
+  pub is-complete : jobFields job ≡ complete (fieldsIn job)
+  pub rows-most : length (jobRows (fieldsIn job)) ≤ mostRows
+  pub coefficients-most : coefficientCount (jobRows (fieldsIn job)) ≤ mostSizes
+  pub more-images : List ℕ
+  pub more-scales : List ℕ
+  pub images-held : images ≡ rowsImages (jobSteps (fieldsIn job)) (jobRows (fieldsIn job)) ++ more-images
+  pub scales-held : scales ≡ map (rowScale (jobSteps (fieldsIn job))) (jobRows (fieldsIn job)) ++ more-scales
 
 -- the job has the byte, and the buffers the places, that are printed of an answer
-pub record Printable (job : List ℕ) (answer : JobAnswer) (images list : List ℕ) : Type 0 where
+pub record Printable (job : List ℕ) (answer : JobAnswer) (images list scales : List ℕ) : Type 0 where
   pub kind-there : answer .number ≡ 0 → 3 < length job
   pub images-there : answer .n ≤ length images
   pub list-there : answer .length ≤ length list
   pub images-most : length images ≤ mostSizes
   pub list-most : length list ≤ mostEntries
+  pub rows-held : answer .number ≡ 0 → fourthByte job ≡ rowsKind → RowsHeld job images scales
+
+-- the refusal that an answer tells
+unfoldable pub refusalOf : JobAnswer → List ℕ → Refusal
+refusalOf answer list = record { number = answer .number; row = answer .row; step = answer .step; list = take (answer .length) list }
 
 -- what is printed of an answer, with the image and list buffers that it speaks of
 unfoldable pub answerText : List ℕ → JobAnswer → List ℕ → List ℕ → List ℕ
 answerText job answer images list =
     cond (eqb (answer .number) 0)
-    (acceptedText (getD job 3 0) answer (take (answer .n) images))
-    (refusedText (answer .number) (answer .step) (take (answer .length) list))
+    (cond (eqb (fourthByte job) rowsKind)
+    (rowsText (jobSteps (fieldsIn job)) (jobRows (fieldsIn job)))
+    (acceptedText (fourthByte job) answer (take (answer .n) images)))
+    (refusedText (fourthByte job) (refusalOf answer list))
 
 -- a text put into a buffer from its start on, and how long it may be
 pub record TextPut (old text now : List ℕ) (next : ℕ) : Type 0 where

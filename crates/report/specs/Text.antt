@@ -1,14 +1,14 @@
--- What the hand-over program prints for a job, document 01, "The hand-over program", in ASCII.
+-- What the hand-over program prints for a job, document 01, "The hand-over program", and document 02, request 1, in ASCII.
 use mathlib.Core.Bool.{cond}
 use mathlib.Core.List.{List, [], _∷_, _++_}
 use Prim.Native.Nat.{ℕ, zero, suc, _+_, _-_, _/_, _%_}
 use lib.Dec.{ltb, eqb}
+use lib.ListN.{getD}
 use Rattle.tables.specs.Check.{mostEntries}
-use Rattle.fields.specs.Parts.{Field, jobKind}
-use Rattle.fields.specs.Grammar.{mostSizes}
-use Rattle.fields.specs.Reading.{jobFields, fieldsOf}
-use Rattle.jobs.specs.Judge.{Refusal}
-use Rattle.jobs.specs.Job.{judgeJob, jobImages, acceptedAnswer}
+use Rattle.fields.specs.Parts.{Field, Step, Row, jobKind, jobSteps, jobRows}
+use Rattle.fields.specs.Grammar.{mostSizes, mostRows, rowsKind}
+use Rattle.chains.specs.Judge.{Refusal}
+use Rattle.jobs.specs.Job.{fieldsIn, judgeJob, rowImages, rowScale, jobImages, acceptedAnswer}
 use Rattle.jobs.specs.declared.JobAnswer.{JobAnswer}
 
 -- the decimal digits of a number below 10 ^ k, without leading zeros
@@ -56,30 +56,48 @@ listWord = 108 ∷ 105 ∷ 115 ∷ 116 ∷ []
 unfoldable pub floorText : ℕ → JobAnswer → List ℕ
 floorText kind answer = cond (eqb kind 1) (line floorWord (answer .floor ∷ []) ++ line sumWord (answer .sum ∷ [])) []
 
+unfoldable pub cutText : ℕ → List ℕ → List ℕ
+cutText scale images = line scaleWord (scale ∷ []) ++ line imagesWord images
+
 unfoldable pub acceptedText : ℕ → JobAnswer → List ℕ → List ℕ
-acceptedText kind answer images = floorText kind answer ++ (line scaleWord (answer .scale ∷ []) ++ line imagesWord images)
+acceptedText kind answer images = floorText kind answer ++ cutText (answer .scale) images
 
--- number and step, and for 11 the list
-unfoldable pub refusedText : ℕ → ℕ → List ℕ → List ℕ
-refusedText number step list = line refusedWord (number ∷ step ∷ []) ++ cond (eqb number 11) (line listWord list) []
+-- a cut for each row
+unfoldable pub rowsText : List Step → List Row → List ℕ
+rowsText steps [] = []
+rowsText steps (r ∷ rows) = cutText (rowScale steps r) (rowImages steps r) ++ rowsText steps rows
 
-unfoldable pub judgedText : Refusal → List ℕ
-judgedText r = refusedText (r .number) (r .step) (r .list)
+-- the row is printed where the fourth byte is the kind of rows
+unfoldable pub rowValues : ℕ → ℕ → List ℕ
+rowValues fourth row = cond (eqb fourth rowsKind) (row ∷ []) []
+
+-- number, row and step, and for 11 the list
+unfoldable pub refusedText : ℕ → Refusal → List ℕ
+refusedText fourth r =
+    line refusedWord (r .number ∷ (rowValues fourth (r .row) ++ (r .step ∷ [])))
+    ++ cond (eqb (r .number) 11) (line listWord (r .list)) []
 
 unfoldable pub fieldsText : List Field → List ℕ
-fieldsText fields = acceptedText (jobKind fields) (acceptedAnswer fields) (jobImages fields)
+fieldsText fields =
+    cond (eqb (jobKind fields) rowsKind)
+    (rowsText (jobSteps fields) (jobRows fields))
+    (acceptedText (jobKind fields) (acceptedAnswer fields) (jobImages fields))
 
--- no text has more bytes
+-- no text has more bytes: 64 rows with 2,048 images of ten digits
 abbrev pub mostText : ℕ
-mostText = 22_700
+mostText = 24_064
+
+-- the fourth byte of a job, 0 where it is shorter
+unfoldable pub fourthByte : List ℕ → ℕ
+fourthByte job = getD job 3 0
 
 -- what refuses a job, with lent buffers of the least lengths that 7 lets pass
 unfoldable pub handedOver : List ℕ → Refusal
-handedOver job = judgeJob job mostSizes mostEntries (mostEntries - 1)
+handedOver job = judgeJob job (record { images = mostSizes; working = mostEntries; list = mostEntries - 1; scales = mostRows })
 
 -- all that is printed for a job
 unfoldable pub handOverText : List ℕ → List ℕ
 handOverText job =
     cond (eqb (handedOver job .number) 0)
-    (fieldsText (fieldsOf (jobFields job)))
-    (judgedText (handedOver job))
+    (fieldsText (fieldsIn job))
+    (refusedText (fourthByte job) (handedOver job))

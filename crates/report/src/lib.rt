@@ -15,13 +15,14 @@ fn answer_text(
     images: &mut [u32],
     working: &mut [u64],
     list: &mut [u32],
+    scales: &mut [u32],
     out: &mut [u8],
 ) -> usize
-    requires { ⌜ Lent (now images) (now working) (now list) ⌝ }
+    requires { ⌜ Lent (now images) (now working) (now list) (now scales) ⌝ }
     ensures { λ r. ⌜ TextPut (now (out .entry)) (handOverText (now (job .entry))) (now (out .exit)) r ⌝ }
 {
-    let answer = jobs::windowfloor_job(job, images, working, list);
-    lines::put_answer(out, job, answer, images, list)
+    let answer = jobs::windowfloor_job(job, images, working, list, scales);
+    lines::put_answer(out, job, answer, images, list, scales)
 }
 
 // Puts the text for a job at the start of `out`, as far as it fits, and answers how many bytes.
@@ -34,5 +35,6 @@ pub fn hand_over(job: &[u8], out: &mut [u8]) -> usize
     let mut images = [0u32; fields::MOST_SIZES];
     let mut working = [0u64; tables::MOST_ENTRIES];
     let mut list = [0u32; jobs::LIST_PLACES];
-    answer_text(job, &mut images, &mut working, &mut list, out)
+    let mut scales = [0u32; fields::MOST_ROWS];
+    answer_text(job, &mut images, &mut working, &mut list, &mut scales, out)
 }

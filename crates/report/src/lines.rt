@@ -1,11 +1,26 @@
 // The lines of a text: a word, values with one space before each, and the line's end.
 use crate::put;
-ghost use mathlib.Core.List.{[], _∷_};
+ghost use mathlib.Core.Path.{_≡_};
+ghost use mathlib.Core.List.{[], _∷_, _++_};
 ghost use Prim.Native.Nat.{_≤_};
 ghost use lib.ListN.{length};
-ghost use Rattle.report.specs.Text.{line, floorText, acceptedText, refusedText};
+ghost use Rattle.fields.specs.Parts.{jobSteps, jobRows};
+ghost use Rattle.fields.specs.Record.{Stand};
+ghost use Rattle.jobs.specs.Job.{fieldsIn};
+ghost use Rattle.report.specs.Text.{
+  valuesText,
+  line,
+  refusedWord,
+  floorText,
+  cutText,
+  acceptedText,
+  rowsText,
+  rowValues,
+  refusedText,
+  fourthByte,
+};
 ghost use Rattle.report.specs.Put.{Put};
-ghost use Rattle.report.specs.Answer.{Printable, answerText, TextPut};
+ghost use Rattle.report.specs.Answer.{RowsHeld, Printable, refusalOf, answerText, TextPut};
 
 fn put_number_line(out: &mut [u8], at: usize, word: &[u8], n: u64) -> usize
     requires { ⌜ at ≤ length (now out) ⌝ }
@@ -13,16 +28,6 @@ fn put_number_line(out: &mut [u8], at: usize, word: &[u8], n: u64) -> usize
 {
     let behind = put::put_bytes(out, at, word);
     let end = put::put_value(out, behind, n);
-    put::put_byte(out, end, b'\n')
-}
-
-fn put_pair_line(out: &mut [u8], at: usize, word: &[u8], m: u64, n: u64) -> usize
-    requires { ⌜ at ≤ length (now out) ⌝ }
-    ensures { λ r. ⌜ Put (now (out .entry)) at (line (now (word .entry)) (m ∷ n ∷ [])) (now (out .exit)) r ⌝ }
-{
-    let behind = put::put_bytes(out, at, word);
-    let first = put::put_value(out, behind, m);
-    let end = put::put_value(out, first, n);
     put::put_byte(out, end, b'\n')
 }
 
@@ -47,45 +52,125 @@ fn put_floor(out: &mut [u8], kind: u8, answer: jobs::JobAnswer) -> usize
     put_number_line(out, next, b"sum", answer.sum)
 }
 
+// A cut: its scale and its images.
+fn put_cut(out: &mut [u8], at: usize, scale: u64, images: &[u32]) -> usize
+    requires { ⌜ at ≤ length (now out) ⌝ }
+    ensures { λ r. ⌜ Put (now (out .entry)) at (cutText scale (now (images .entry))) (now (out .exit)) r ⌝ }
+{
+    let next = put_number_line(out, at, b"scale", scale);
+    put_list_line(out, next, b"images", images)
+}
+
 fn put_accepted(out: &mut [u8], kind: u8, answer: jobs::JobAnswer, images: &[u32]) -> usize
     ensures { λ r.
         ⌜ Put (now (out .entry)) 0 (acceptedText kind answer (now (images .entry))) (now (out .exit)) r ⌝ }
 {
     let scale = answer.scale;
     let next = put_floor(out, kind, answer);
-    let last = put_number_line(out, next, b"scale", scale);
-    put_list_line(out, last, b"images", images)
+    put_cut(out, next, scale, images)
 }
 
-fn put_refused(out: &mut [u8], number: u64, step: u64, list: &[u32]) -> usize
-    ensures { λ r.
-        ⌜ Put (now (out .entry)) 0 (refusedText number step (now (list .entry))) (now (out .exit)) r ⌝ }
+// The cuts of all rows: each one's images stand behind those of the row before.
+fn put_rows(out: &mut [u8], job: &[u8], rows: usize, images: &[u32], scales: &[u32]) -> usize
+    requires { ⌜ RowsHeld (now job) (now images) (now scales)
+        × Stand (now job) 0 (fieldsIn (now job)) (length (now job))
+        × (rows ≡ length (jobRows (fieldsIn (now job)))) ⌝ }
+    ensures { λ r. ⌜ Put (now (out .entry)) 0 (rowsText (jobSteps (fieldsIn (now (job .entry))))
+        (jobRows (fieldsIn (now (job .entry))))) (now (out .exit)) r ⌝ }
 {
-    let next = put_pair_line(out, 0, b"refused", number, step);
+    let mut at = 0;
+    let mut place = 0;
+    let mut next = 0;
+    let mut k = 0;
+    while k < rows {
+        let row = fields::rows::next_row(job, at);
+        let end = place + row.coefficients.n;
+        next = put_cut(out, next, scales[k] as u64, &images[place..end]);
+        place = end;
+        at = row.next;
+        k += 1;
+    }
+    next
+}
+
+// How many rows the job has is read from its fields again.
+fn put_job_rows(out: &mut [u8], job: &[u8], images: &[u32], scales: &[u32]) -> usize
+    requires { ⌜ RowsHeld (now job) (now images) (now scales) ⌝ }
+    ensures { λ r. ⌜ Put (now (out .entry)) 0 (rowsText (jobSteps (fieldsIn (now (job .entry))))
+        (jobRows (fieldsIn (now (job .entry))))) (now (out .exit)) r ⌝ }
+{
+    let read = fields::read_job(job);
+    put_rows(out, job, read.parts.rows, images, scales)
+}
+
+// A refusal's row, where the fourth byte is the kind of rows.
+fn put_row(out: &mut [u8], at: usize, fourth: u8, row: u64) -> usize
+    requires { ⌜ at ≤ length (now out) ⌝ }
+    ensures { λ r. ⌜ Put (now (out .entry)) at (valuesText (rowValues fourth row)) (now (out .exit)) r ⌝ }
+{
+    if fourth != fields::ROWS_KIND {
+        return at;
+    }
+    put::put_value(out, at, row)
+}
+
+fn put_refused_line(out: &mut [u8], fourth: u8, answer: jobs::JobAnswer) -> usize
+    ensures { λ r. ⌜ Put (now (out .entry)) 0 (line refusedWord
+        (answer .number ∷ (rowValues fourth (answer .row) ++ (answer .step ∷ [])))) (now (out .exit)) r ⌝ }
+{
+    let behind = put::put_bytes(out, 0, b"refused");
+    let first = put::put_value(out, behind, answer.number);
+    let second = put_row(out, first, fourth, answer.row);
+    let end = put::put_value(out, second, answer.step);
+    put::put_byte(out, end, b'\n')
+}
+
+fn put_refused(out: &mut [u8], fourth: u8, answer: jobs::JobAnswer, list: &[u32]) -> usize
+    requires { ⌜ answer .length ≤ length (now list) ⌝ }
+    ensures { λ r. ⌜ Put (now (out .entry)) 0 (refusedText fourth (refusalOf answer (now (list .entry))))
+        (now (out .exit)) r ⌝ }
+{
+    let number = answer.number;
+    let length = answer.length as usize;
+    let next = put_refused_line(out, fourth, answer);
     if number != 11 {
         return next;
     }
-    put_list_line(out, next, b"list", list)
+    put_list_line(out, next, b"list", &list[..length])
 }
 
-// The lines of an answer: the kind is the job's fourth byte, and the images and the list stand in
-// the first places of the buffers.
+// The fourth byte of a job, 0 where it is shorter.
+fn fourth_byte(job: &[u8]) -> u8
+    ensures { λ r. ⌜ r ≡ fourthByte (now (job .entry)) ⌝ }
+{
+    if job.len() < 4 {
+        return 0;
+    }
+    job[3]
+}
+
+// The lines of an answer: the kind is the job's fourth byte, and the images, the list and the scales
+// stand in the first places of the buffers.
 pub(crate) fn put_answer(
     out: &mut [u8],
     job: &[u8],
     answer: jobs::JobAnswer,
     images: &[u32],
     list: &[u32],
+    scales: &[u32],
 ) -> usize
-    requires { ⌜ Printable (now job) answer (now images) (now list) ⌝ }
+    requires { ⌜ Printable (now job) answer (now images) (now list) (now scales) ⌝ }
     ensures { λ r.
         ⌜ TextPut (now (out .entry)) (answerText (now (job .entry)) answer (now (images .entry)) (now (list .entry)))
         (now (out .exit)) r ⌝ }
 {
+    let fourth = fourth_byte(job);
     if answer.number != 0 {
-        let length = answer.length as usize;
-        return put_refused(out, answer.number, answer.step, &list[..length]);
+        return put_refused(out, fourth, answer, list);
+    }
+    if fourth == fields::ROWS_KIND {
+        return put_job_rows(out, job, images, scales);
     }
     let n = answer.n as usize;
-    put_accepted(out, job[3], answer, &images[..n])
+    put_accepted(out, fourth, answer, &images[..n])
 }

@@ -23,13 +23,13 @@ use Rattle.functions.proofs.Promise.{family-promise}
 use Rattle.functions.proofs.Summed.{sum-small}
 use Rattle.fields.specs.Parts.{onFamily}
 use Rattle.fields.specs.Grammar.{mostSizes}
-use Rattle.jobs.specs.Chain.{stepImage, stepScale, stepRefusal, chainImage, chainScale, ChainAccepted, chainFloor}
+use Rattle.chains.specs.Chain.{stepImage, stepScale, stepRefusal, chainImage, chainScale, ChainAccepted, chainFloor}
 use Rattle.jobs.specs.Packing.{Fits, binsUsed}
-use Rattle.jobs.specs.Sizes.{sizesWithin}
+use Rattle.chains.specs.Sizes.{sizesWithin}
 use Rattle.sweeps.specs.Sweep.{widest, sweepRefusal, Sweepable, Scaled, sweepFloor, passes, passing, largest, firstWith, refusedSweep, bestOf, sweepAnswer}
 use Rattle.sweeps.specs.declared.SweepAnswer.{SweepAnswer}
 use Rattle.jobs.proofs.Packings.{chain-is-safe}
-use Rattle.jobs.proofs.SizeTests.{sizes-most}
+use Rattle.chains.proofs.SizeTests.{sizes-most}
 
 largest-append : (xs ys : List ℕ) → largest (xs ++ ys) ≡ max (largest xs) (largest ys)
 unfolding largest

@@ -8,8 +8,8 @@ use lib.ListN.{length}
 use Rattle.functions.specs.Words.{capacityFits}
 use Rattle.fields.specs.Parts.{onFamily}
 use Rattle.fields.specs.Grammar.{mostSizes}
-use Rattle.jobs.specs.Chain.{stepScale, stepRefusal, chainFloor}
-use Rattle.jobs.specs.Sizes.{sizesWithin}
+use Rattle.chains.specs.Chain.{stepScale, stepRefusal, chainFloor}
+use Rattle.chains.specs.Sizes.{sizesWithin}
 use Rattle.sweeps.specs.declared.SweepAnswer.{SweepAnswer}
 
 -- the most that high is above low

@@ -2,7 +2,7 @@
 use crate::SweepAnswer;
 ghost use mathlib.Core.Path.{_≡_};
 ghost use Prim.Native.Nat.{suc, _-_, _≤_};
-ghost use Rattle.jobs.specs.Sizes.{sizesWithin};
+ghost use Rattle.chains.specs.Sizes.{sizesWithin};
 ghost use Rattle.sweeps.specs.Sweep.{
   widest,
   sweepRefusal,

@@ -4,9 +4,7 @@ mod form;
 mod refute;
 
 ghost use mathlib.Core.Path.{_≡_};
-ghost use mathlib.Core.List.{map};
 ghost use lib.ListN.{length, take};
-ghost use Rattle.tables.specs.Table.{entry};
 ghost use Rattle.tables.specs.Check.{tableAnswer, workingAfter, listAfter};
 ghost use Rattle.tables.specs.Promise.{Overshoots, AcceptedExactly};
 
@@ -64,22 +62,4 @@ pub extern "C" fn windowfloor_table_check(
         number: 11,
         length: length as u64,
     }
-}
-
-// Maps each size of a list to its entry, in place; a size over the capacity becomes 0.
-pub fn map_table(table: &[u32], list: &mut [u32])
-    ensures { λ _. ⌜ now (list .exit) ≡ map (entry (now (table .entry))) (now (list .entry)) ⌝ }
-{
-    let mut i = 0;
-    while i < list.len() {
-        let x = list[i] as usize;
-        list[i] = entry_at(table, x);
-        i += 1;
-    }
-}
-
-fn entry_at(table: &[u32], x: usize) -> u32
-    ensures { λ r. ⌜ r ≡ entry (now (table .entry)) x ⌝ }
-{
-    if x < table.len() { table[x] } else { 0 }
 }

@@ -77,7 +77,7 @@ with-field-requires : tie.Need-with-field-requires Inv-loop μ-loop
 with-field-requires c κs =
     let d = c .before in
     rw (ap length (value-read c), header-read (d .before .before))
-    (fillable _ _ _ _ (d .before .before .before .before .before .loop .inv) (d .before .before .before .before .loop-test .taken) (fine d))
+    (fillable _ _ _ _ (d .before .before .before .before .before .loop .inv) (d .before .before .before .before .loop-test .taken) (fine d) (omega arith))
 
 add-at : tie.Need-add-at Inv-loop μ-loop
 add-at c = omega (arith, bounds (c .before .before), ap length (value-read (c .before)))

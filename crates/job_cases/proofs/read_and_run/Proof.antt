@@ -35,6 +35,9 @@ same-length-2 c = search needs
 same-length-3 : tie.Need-same-length-3
 same-length-3 c = search needs
 
+same-length-4 : tie.Need-same-length-4
+same-length-4 c = search needs
+
 returns : tie.Need-returns
 returns c = search needs
 
@@ -51,4 +54,5 @@ read-and-run-spec =
     same-length
     same-length-2
     same-length-3
+    same-length-4
     returns)

@@ -30,15 +30,23 @@ returns-5 c = rw (c .match .keys4)
 
 returns-6 : tie.Need-returns-6
 unfolding lengthRight
-returns-6 c =
-    let rest = c .before .before .match .rest in
-    rw (ne-eqb _ 1 (rest .0 .0 .0 .1), ne-eqb _ 2 (rest .0 .0 .1), ne-eqb _ 3 (rest .0 .1), ne-eqb _ 4 (rest .1), eq-eqb _ 0 (c .before .if2 .taken)) (c .table-length-right .ensures)
+returns-6 c = rw (c .before .match .keys5, eq-eqb _ 0 (c .if2 .taken))
 
 returns-7 : tie.Need-returns-7
 unfolding lengthRight
-returns-7 c =
+returns-7 c = rw (c .before .match .keys5, ne-eqb _ 0 (c .if2 .left))
+
+returns-8 : tie.Need-returns-8
+unfolding lengthRight
+returns-8 c =
+    let rest = c .before .before .match .rest in
+    rw (ne-eqb _ 1 (rest .0 .0 .0 .0 .1), ne-eqb _ 2 (rest .0 .0 .0 .1), ne-eqb _ 3 (rest .0 .0 .1), ne-eqb _ 4 (rest .0 .1), ne-eqb _ 6 (rest .1), eq-eqb _ 0 (c .before .if3 .taken)) (c .table-length-right .ensures)
+
+returns-9 : tie.Need-returns-9
+unfolding lengthRight
+returns-9 c =
     let rest = c .before .match .rest in
-    rw (ne-eqb _ 1 (rest .0 .0 .0 .1), ne-eqb _ 2 (rest .0 .0 .1), ne-eqb _ 3 (rest .0 .1), ne-eqb _ 4 (rest .1), ne-eqb _ 0 (c .if2 .left))
+    rw (ne-eqb _ 1 (rest .0 .0 .0 .0 .1), ne-eqb _ 2 (rest .0 .0 .0 .1), ne-eqb _ 3 (rest .0 .0 .1), ne-eqb _ 4 (rest .0 .1), ne-eqb _ 6 (rest .1), ne-eqb _ 0 (c .if3 .left))
 
 pub length-right-spec : {M : Type 1} → statement M
 length-right-spec =
@@ -51,4 +59,6 @@ length-right-spec =
     returns-4
     returns-5
     returns-6
-    returns-7)
+    returns-7
+    returns-8
+    returns-9)

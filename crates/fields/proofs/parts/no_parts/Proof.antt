@@ -2,7 +2,7 @@
 use mathlib.Core.Path.{refl}
 use native.Mathlib.Omega.{arith}
 use Rattle.fields.specs.Bytes.{word, words, wordsFrom}
-use Rattle.fields.specs.Parts.{valueOf, jobKind, jobCapacity, jobSizes, jobSteps}
+use Rattle.fields.specs.Parts.{valueOf, jobKind, jobCapacity, jobSizes, chosen, jobSteps, jobRows, coefficientCount}
 use Rattle.fields.specs.Record.{spanBytes, stepsIn}
 use borrow.Author.Needs.{needs}
 use Rattle.fields.proofs.parts.no_parts.Statement.{statement}
@@ -12,7 +12,7 @@ table-step-requires : tie.Need-table-step-requires
 table-step-requires c κs = search needs
 
 returns : tie.Need-returns
-unfolding valueOf jobKind jobCapacity jobSizes jobSteps spanBytes stepsIn word words wordsFrom
+unfolding valueOf jobKind jobCapacity jobSizes chosen jobSteps jobRows coefficientCount spanBytes stepsIn word words wordsFrom
 returns c =
     λ job.
     record {
@@ -23,6 +23,8 @@ returns c =
       sizes-most = omega arith;
       steps-are = refl;
       steps-within = record { places = refl; most = omega arith; each = λ i l. absurd (omega arith) };
+      rows-count = refl;
+      coefficients-count = refl;
     }
 
 pub no-parts-spec : {M : Type 1} → statement M

@@ -1,6 +1,6 @@
 -- `least_of` meets its contract: its test is the definition's.
 use borrow.Author.Tests.{eq-eqb, ne-eqb}
-use Rattle.jobs.specs.Sizes.{leastOf}
+use Rattle.jobs.specs.Kinds.{leastOf}
 use Rattle.jobs.proofs.answer.least_of.Statement.{statement}
 use Rattle.jobs.proofs.answer.least_of.Tie as tie
 

@@ -4,7 +4,7 @@ use native.Mathlib.Omega.{arith}
 use borrow.Author.Tests.{lt-ltb, le-ltb}
 use Prim.Native.Nat.{_-_}
 use Rattle.tables.specs.Check.{mostEntries}
-use Rattle.fields.specs.Grammar.{mostBytes, mostSizes}
+use Rattle.fields.specs.Grammar.{mostBytes, mostSizes, mostRows}
 use Rattle.jobs.specs.Job.{bufferRefusal}
 use Rattle.jobs.proofs.answer.refuse_buffers.Statement.{statement}
 use Rattle.jobs.proofs.answer.refuse_buffers.Tie as tie
@@ -27,7 +27,11 @@ returns-4 c = rw (le-ltb mostBytes _ (c .before .before .before .if1 .left), lt-
 
 returns-5 : tie.Need-returns-5
 unfolding bufferRefusal
-returns-5 c = rw (le-ltb mostBytes _ (c .before .before .before .if1 .left), le-ltb _ mostSizes (c .before .before .if2 .left), le-ltb _ mostEntries (c .before .if3 .left), le-ltb _ (mostEntries - 1) (c .if4 .left))
+returns-5 c = rw (le-ltb mostBytes _ (c .before .before .before .before .if1 .left), lt-ltb (c .before .before .before .before .before .args .scales) mostRows (omega (arith, c .if5 .taken)), or-true)
+
+returns-6 : tie.Need-returns-6
+unfolding bufferRefusal
+returns-6 c = rw (le-ltb mostBytes _ (c .before .before .before .before .if1 .left), le-ltb _ mostSizes (c .before .before .before .if2 .left), le-ltb _ mostEntries (c .before .before .if3 .left), le-ltb _ (mostEntries - 1) (c .before .if4 .left), le-ltb _ mostRows (c .if5 .left))
 
 pub refuse-buffers-spec : {M : Type 1} → statement M
-refuse-buffers-spec = tie.close (tie.spec returns returns-2 returns-3 returns-4 returns-5)
+refuse-buffers-spec = tie.close (tie.spec returns returns-2 returns-3 returns-4 returns-5 returns-6)

@@ -6,7 +6,7 @@ use borrow.Author.Tests.{not-true, not-false, le-leb, lt-leb, lt-ltb, le-ltb}
 use lib.Dec.{leb, ltb}
 use lib.ListN.{length}
 use Rattle.functions.specs.Words.{capacityFits}
-use Rattle.jobs.specs.Sizes.{sizesWithin}
+use Rattle.chains.specs.Sizes.{sizesWithin}
 use Rattle.fields.specs.Grammar.{mostSizes}
 use Rattle.sweeps.specs.Sweep.{widest, sweepRefusal}
 use Rattle.sweeps.proofs.sweep.refuse_sweep.Statement.{statement}

@@ -3,8 +3,8 @@ use mathlib.Core.Path.{_≡_, refl, sym, _∙_}
 use Prim.Native.Nat.{_-_, _≤_}
 use native.Mathlib.Omega.{arith}
 use lib.ListN.{length, drop}
-use Rattle.jobs.specs.Sizes.{sizesWithin}
-use Rattle.jobs.proofs.SizeTests.{size-below, size-above, size-passes, sizes-passed}
+use Rattle.chains.specs.Sizes.{sizesWithin}
+use Rattle.chains.proofs.SizeTests.{size-below, size-above, size-passes, sizes-passed}
 use Rattle.sweeps.proofs.sweep.sizes_fit.Statement.{statement}
 use Rattle.sweeps.proofs.sweep.sizes_fit.Tie as tie
 

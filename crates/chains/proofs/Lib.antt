@@ -1,0 +1,6 @@
+pub mod Chains
+pub mod SizeTests
+pub mod Judging
+pub mod Present
+pub mod Applying
+pub mod Judged

@@ -1,0 +1,4 @@
+pub mod Chain
+pub mod Sizes
+pub mod Judge
+pub mod Apply

@@ -1,0 +1,173 @@
+"""Jobs as bytes: their fields, the cases made of them, random steps and damage."""
+
+import itertools
+
+import windowfloor as wf
+from table_cases import LIMIT, MAX
+
+
+# Fields and whole jobs
+
+def word(number):
+    return number.to_bytes(4, "big")
+
+
+def field(tag, value, length=None):
+    """A field; its header may say another length."""
+    length = len(value) if length is None else length
+    return bytes([tag]) + length.to_bytes(2, "big") + value
+
+
+def words(numbers):
+    return b"".join(map(word, numbers))
+
+
+def family(number, p, q=0):
+    return field(4, bytes([number]) + word(p) + word(q))
+
+
+def table(*entries):
+    return field(5, words(entries))
+
+
+def head(kind, capacity, sizes):
+    return [field(1, bytes([kind])), field(2, word(capacity)), field(3, words(sizes))]
+
+
+def job(kind, capacity, sizes, *steps):
+    return b"".join(head(kind, capacity, sizes) + list(steps))
+
+
+def last_only(n, last):
+    """A table of n entries, all 0 but the last."""
+    return table(*[0] * (n - 1), last)
+
+
+def row(right, *coefficients):
+    return field(6, words((right,) + coefficients))
+
+
+def rows_fields(rows, *steps):
+    """The fields of a job of kind 3; a row is its right side and its coefficients."""
+    return [field(1, b"\3")] + [row(*numbers) for numbers in rows] + list(steps)
+
+
+def rows_job(rows, *steps):
+    return b"".join(rows_fields(rows, *steps))
+
+
+# Refused at capacity 10.
+BAD_STEPS = (
+    family(0, 1), family(8, 1), family(255, 1), family(1, 6), family(1, 3, 1), family(2, 0),
+    family(3, 0), family(4, 1), family(4, 11), family(5, 11), family(6, 3, 1), family(6, 5, 9),
+    family(7, 3, 1), family(2, LIMIT), family(2, LIMIT + 1), family(2, MAX), family(1, 3, MAX),
+    family(2, LIMIT // 10 + 1), family(7, 3, LIMIT), family(6, 3, LIMIT), family(7, 3, LIMIT + 1),
+    table(1, *range(1, 11)), table(*range(10), 0), table(0, *range(1, 10), LIMIT + 1),
+    table(0, LIMIT + 1, *[0] * 8, LIMIT), table(*range(10), 9), table(0, 1, *[0] * 8, 9),
+    table(*range(12)), table(0, 1), table(*range(10)), table(1, 1), table(0, 0), table(0, MAX),
+    table(0, 1, 1), table(1, MAX, 0), table(0, MAX, 0), table(*range(11), 10))
+
+
+# Cases
+
+def make(data, images=wf.JOB_IMAGES, working=wf.JOB_WORKING, listed=wf.JOB_LIST, scales=wf.JOB_SCALES):
+    """A case of a job and the places of its buffers."""
+    runs = [(len(list(group)), byte) for byte, group in itertools.groupby(data)]
+    return (images, working, listed, scales, len(data), len(runs)) + sum(runs, ())
+
+
+# A good job in every way changed
+
+def cut_short(data):
+    """A job cut at every byte, and whole."""
+    for end in range(len(data) + 1):
+        yield data[:end]
+
+
+def other_tags(good):
+    """Every tag at every place of the good fields; each of them left out, and twice."""
+    for place, part in enumerate(good):
+        for tag in (0, 1, 2, 3, 4, 5, 6, 7, 128, 255):
+            yield b"".join(good[:place] + [bytes([tag]) + part[1:]] + good[place + 1:])
+        yield b"".join(good[:place] + good[place + 1:])
+        yield b"".join(good[:place] + [part] + good[place:])
+
+
+def other_lengths(good):
+    """Other lengths: of a value and its header, and of the header alone."""
+    others = (8187, 8188, 8189, 8191, 8192, 8193, 8196, 12_000)
+    for place, part in enumerate(good):
+        before, value, behind = good[:place], part[3:], good[place + 1:]
+        for length in itertools.chain(range(33), others):
+            yield b"".join(before + [field(part[0], (value + bytes(length))[:length])] + behind)
+        for length in (0, 1, len(value) - 1, len(value) + 1, len(value) + 4, 256, 65_535):
+            yield b"".join(before + [field(part[0], value, length)] + behind)
+
+
+# Random steps, and damage
+
+def random_family(rng, capacity):
+    """A family step that is legal at this capacity, and its scale."""
+    while True:
+        number = rng.randint(1, 7)
+        p = rng.choice((rng.randint(0, 12), rng.randint(0, capacity), capacity // 2))
+        q = 0 if number <= 5 else rng.randint(0, 20)
+        if wf.family_refusal(capacity, number, p, q) == wf.ACCEPTED:
+            return family(number, p, q), wf.family_scale(capacity, number, p, q)
+
+
+def random_table(rng, capacity):
+    """A dual-feasible table of this capacity, and its scale."""
+    most = rng.choice((1, 2, 5, 30, 1000))
+    entries = [0] + [rng.randint(0, most) for _ in range(capacity)]
+    entries[-1] = max(1, wf.best_totals(entries[:-1] + [0])[-1] + rng.randint(0, 2))
+    return table(*entries), entries[-1]
+
+
+def random_steps(rng, capacity):
+    """A chain that is accepted at this capacity."""
+    steps = []
+    for _ in range(rng.choice((0, 1, 1, 2, 2, 3, 4, 5, 8))):
+        chosen = random_table if capacity <= 30 and rng.randint(0, 1) else random_family
+        step, capacity = chosen(rng, capacity)
+        steps.append(step)
+    return steps
+
+
+def change_byte(rng, data):
+    place = rng.randrange(len(data))
+    byte = rng.choice((0, 1, 255, data[place] ^ 1, rng.randrange(256), (data[place] + 1) % 256))
+    return data[:place] + bytes([byte]) + data[place + 1:]
+
+
+def damaged(rng, fields):
+    """The job with its fields or its bytes changed."""
+    way = rng.randint(0, 9)
+    place = rng.randrange(len(fields))
+    if way == 0:
+        fields = fields[:place] + fields[place + 1:]
+    elif way == 1:
+        fields = fields[:place] + [rng.choice(fields)] + fields[place:]
+    elif way == 2:
+        fields = rng.sample(fields, len(fields))
+    data = b"".join(fields)
+    cut = rng.randint(0, len(data))
+    if way == 3:
+        return data[:cut]
+    if way == 4:
+        return data[:cut] + bytes([rng.randrange(256)]) + data[cut:]
+    if way == 5:
+        return data[:cut] + data[cut + rng.randint(1, 4):]
+    if way > 5:  # mostly one byte
+        for _ in range(rng.choice((1, 1, 1, 2, 3))):
+            data = change_byte(rng, data)
+    return data
+
+
+def changed_value(rng, fields):
+    """The job with a byte of a value changed, tags and lengths kept."""
+    place = rng.randrange(len(fields))
+    part = fields[place]
+    if len(part) > 3:
+        part = part[:3] + change_byte(rng, part[3:])
+    return b"".join(fields[:place] + [part] + fields[place + 1:])
