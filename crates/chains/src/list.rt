@@ -33,7 +33,7 @@ fn sizes_within(bytes: &[u8], n: usize, least: u64, capacity: u64) -> bool
 }
 
 // Refusals 1 and 17.
-pub fn refuse_list(job: &[u8], capacity: u64, sizes: fields::Span, least: u64) -> u64
+pub(crate) fn refuse_list(job: &[u8], capacity: u64, sizes: fields::Span, least: u64) -> u64
     requires { ⌜ SpanWithin (now job) sizes ⌝ }
     ensures { λ r. ⌜ r ≡ listRefusal least capacity (words (spanBytes (now (job .entry)) sizes)) ⌝ }
 {
