@@ -1,21 +1,16 @@
 -- Fields where they stand in the job, one behind the other, and the rows among them.
-use mathlib.Core.Path.{_≡_, refl, ap, sym, _∙_}
+use mathlib.Core.Path.{_≡_, refl, ap, _∙_}
 use mathlib.Core.Bool.{Bool, true, false}
 use mathlib.Core.List.{List, [], _∷_, _++_}
-use mathlib.Core.Logic.{_⊎_, ⊎-elim}
-use Prim.Native.Nat.{ℕ, suc, _+_, _-_, _*_, _/_, _≤_, _<_}
-use native.Mathlib.Nat.{eq-zero-or-pos}
+use Prim.Native.Nat.{ℕ, _+_, _-_, _≤_}
 use native.Mathlib.Omega.{arith}
-use borrow.Author.Tests.{eqb-true}
-use lib.Dec.{eqb}
-use lib.ListN.{length, getD, take, drop, length-drop}
-use Rattle.fields.specs.Bytes.{headerBytes, word, words, fieldTag, fieldLength, fieldValue}
+use lib.ListN.{length, take, drop, length-drop}
+use Rattle.fields.specs.Bytes.{headerBytes, fieldTag, fieldLength, fieldValue}
 use Rattle.fields.specs.Parts.{Field, isRow, chosen, Row, rowOf, jobRows, coefficientCount}
 use Rattle.fields.specs.Grammar.{lengthRight}
 use Rattle.fields.specs.Reading.{firstField}
-use Rattle.fields.specs.Record.{FieldAt, Stand, RowsLeft, RowAhead, RowFound}
+use Rattle.fields.specs.Record.{FieldAt, Stand}
 use Rattle.fields.proofs.Headers.{within-facts, value-length}
-use Rattle.fields.proofs.Decoding.{words-length}
 use Rattle.fields.proofs.Following.{tag-is-six}
 use Rattle.fields.proofs.Filling.{row-length, row-count}
 

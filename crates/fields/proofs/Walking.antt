@@ -1,20 +1,20 @@
 -- The rows of a job found one after the other, from field to field.
 use mathlib.Core.Path.{_≡_, refl, ap, sym, _∙_}
-use mathlib.Core.Bool.{true, false}
+use mathlib.Core.Bool.{true}
 use mathlib.Core.List.{List, [], _∷_}
-use Prim.Native.Nat.{ℕ, suc, _+_, _-_, _*_, _/_, _^_, _≤_, _<_}
+use Prim.Native.Nat.{ℕ, _+_, _-_, _*_, _/_, _^_, _≤_, _<_}
 use native.Mathlib.Numerals.{add-one}
 use native.Mathlib.Omega.{arith}
 use lib.ListN.{length, getD, take, drop, length-drop}
 use lib.Seq.{getD-drop, drop-drop, take-add, drop-at, length-take-le}
-use Rattle.fields.specs.Bytes.{headerBytes, word, words, fieldTag, fieldLength, fieldValue}
+use Rattle.fields.specs.Bytes.{headerBytes, word, fieldTag, fieldLength, fieldValue}
 use Rattle.fields.specs.Parts.{Field, isRow, chosen, Row, rowOf, jobRows}
 use Rattle.fields.specs.Grammar.{lengthRight}
 use Rattle.fields.specs.Reading.{firstField}
-use Rattle.fields.specs.Record.{spanBytes, SpanWithin, FieldAt, Stand, RowsLeft, RowAhead, noRow, rowIn, RowHere, RowRead, RowFound, RowsFound}
+use Rattle.fields.specs.Record.{spanBytes, FieldAt, Stand, RowsLeft, noRow, rowIn, RowHere, RowRead, RowFound}
 use Rattle.fields.specs.declared.Span.{Span}
 use Rattle.fields.specs.declared.RowPlace.{RowPlace}
-use Rattle.fields.proofs.Headers.{within-facts, value-is, value-length}
+use Rattle.fields.proofs.Headers.{value-is, value-length}
 use Rattle.fields.proofs.Following.{row-tag-is, tag-is-six, no-row}
 use Rattle.fields.proofs.Filling.{row-length}
 use Rattle.fields.proofs.Standing.{tag-at, value-at, length-at, field-end, row-first, row-skipped}

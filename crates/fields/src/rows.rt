@@ -6,12 +6,10 @@ use crate::reader;
 use crate::words;
 ghost use mathlib.Core.Path.{_≡_};
 ghost use mathlib.Core.Bool.{true};
-ghost use mathlib.Core.List.{List};
-ghost use Prim.Native.Nat.{ℕ, _+_, _<_};
+ghost use Prim.Native.Nat.{_+_};
 ghost use lib.ListN.{length, drop};
 ghost use Rattle.fields.specs.Bytes.{headerBytes, fieldLength, fieldWithin};
-ghost use Rattle.fields.specs.Parts.{Field, jobRows};
-ghost use Rattle.fields.specs.Record.{RowHere, RowRead, RowsLeft, RowAhead, RowsFound};
+ghost use Rattle.fields.specs.Record.{RowHere, RowRead, RowAhead, RowsFound};
 
 // The place behind the field at a place.
 fn field_end(job: &[u8], at: usize) -> usize

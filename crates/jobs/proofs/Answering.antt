@@ -22,9 +22,9 @@ use Rattle.chains.specs.Chain.{chainImage, chainScale}
 use Rattle.chains.specs.Apply.{ChainAppliable}
 use Rattle.jobs.specs.Kinds.{isKind, leastOf, rowsFit}
 use Rattle.jobs.specs.Packing.{ChainPromise}
-use Rattle.chains.specs.Judge.{Refusal, plain, entriesAt, verdictOf, listBy, Judged, CheckRoom}
+use Rattle.chains.specs.Judge.{Refusal, plain, entriesAt, verdictOf, listBy, CheckRoom}
 use Rattle.jobs.specs.JudgeRows.{judgeRow, judgeRows}
-use Rattle.jobs.specs.Job.{judgeFields, judgeReading, fieldsIn, Places, placesOf, bufferRefusal, judgeJob, rowImages, rowScale, rowsImages, jobImages, jobCount, jobScales, acceptedAnswer, refusedAnswer, answerBy, imagesBy, scalesBy, Finished, Answered, jobAnswer, imagesAfter, listAfterJob, scalesAfter, CutHolds, RowHolds, JobSafe}
+use Rattle.jobs.specs.Job.{judgeFields, judgeReading, fieldsIn, Places, placesOf, bufferRefusal, judgeJob, rowImages, rowScale, jobImages, jobCount, jobScales, acceptedAnswer, refusedAnswer, answerBy, imagesBy, scalesBy, Finished, Answered, jobAnswer, imagesAfter, listAfterJob, scalesAfter, CutHolds, RowHolds, JobSafe}
 use Rattle.jobs.specs.declared.JobAnswer.{JobAnswer}
 use Rattle.chains.specs.declared.Verdict.{Verdict}
 use Rattle.jobs.proofs.Packings.{chain-is-safe}

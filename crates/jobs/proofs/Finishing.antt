@@ -1,5 +1,5 @@
 -- The images and the answer of an accepted job, from what the code computes.
-use mathlib.Core.Path.{_≡_, refl, ap, sym, _∙_}
+use mathlib.Core.Path.{_≡_, ap, sym, _∙_}
 use mathlib.Core.Bool.{Bool, true, false, cond}
 use mathlib.Core.List.{List, _++_, map}
 use Prim.Native.Nat.{ℕ, _+_, _*_, _^_, _≤_, _<_}
@@ -11,7 +11,7 @@ use Rattle.functions.specs.Words.{total}
 use Rattle.functions.specs.Families.{_up_}
 use Rattle.functions.specs.Promise.{StepPromise}
 use Rattle.fields.specs.Bytes.{words}
-use Rattle.fields.specs.Parts.{Field, Step, jobKind, jobCapacity, jobSizes, jobSteps, jobRows, coefficientCount}
+use Rattle.fields.specs.Parts.{Field, jobKind, jobCapacity, jobSizes, jobSteps, jobRows, coefficientCount}
 use Rattle.fields.specs.Grammar.{mostSizes, mostRows, rowsKind}
 use Rattle.fields.specs.Record.{spanBytes, stepsIn, PartsOf}
 use Rattle.fields.specs.declared.JobParts.{JobParts}

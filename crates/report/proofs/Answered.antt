@@ -1,6 +1,6 @@
 -- What the job operation leaves, as the text needs it: an answer that can be printed, and the text that it gives.
 use mathlib.Core.Path.{_≡_, refl, ap, sym, _∙_}
-use mathlib.Core.List.{List, _++_, map}
+use mathlib.Core.List.{List, _++_}
 use mathlib.Core.Logic.{⊎-elim}
 use Prim.Native.Nat.{ℕ, _-_, _≤_}
 use native.Mathlib.Nat.{eq-zero-or-pos}
@@ -9,10 +9,10 @@ use borrow.Author.Tests.{eq-eqb, ne-eqb}
 use lib.ListN.{length, take, drop, length-append}
 use lib.Seq.{take-append-seam}
 use Rattle.tables.specs.Check.{mostEntries}
-use Rattle.fields.specs.Parts.{jobKind, jobSteps, jobRows}
+use Rattle.fields.specs.Parts.{jobKind}
 use Rattle.fields.specs.Grammar.{mostSizes, mostRows, rowsKind}
 use Rattle.chains.specs.Judge.{listBy}
-use Rattle.jobs.specs.Job.{fieldsIn, Places, placesOf, answerBy, imagesBy, scalesBy, jobAnswer, acceptedAnswer, refusedAnswer, rowScale, rowsImages, jobImages, jobCount, jobScales, imagesAfter, listAfterJob, scalesAfter}
+use Rattle.jobs.specs.Job.{fieldsIn, Places, placesOf, answerBy, imagesBy, scalesBy, jobAnswer, acceptedAnswer, refusedAnswer, jobImages, jobCount, jobScales, imagesAfter, listAfterJob, scalesAfter}
 use Rattle.jobs.specs.declared.JobAnswer.{JobAnswer}
 use Rattle.jobs.proofs.Accepted.{accepted-kind, accepted-fields, JobAccepted}
 use Rattle.jobs.proofs.Finishing.{rows-bounds, images-count}

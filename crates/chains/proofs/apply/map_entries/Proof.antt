@@ -1,6 +1,6 @@
 -- `map_entries` meets its contract: each turn puts the next size's entry in its place.
-use mathlib.Core.Path.{_≡_, sym, _∙_}
-use Prim.Native.Nat.{_+_, _-_, _*_, _≤_}
+use mathlib.Core.Path.{sym, _∙_}
+use Prim.Native.Nat.{_-_, _≤_}
 use native.Mathlib.Omega.{arith}
 use lib.ListN.{length, getD}
 use Rattle.functions.proofs.Mapped.{Mapped, mapped-start, mapped-length, mapped-within, mapped-next, mapped-end}

@@ -1,6 +1,6 @@
 -- `may_follow` meets its contract: behind the first field by the kind, and then by the last tag.
 use borrow.Author.Tests.{eq-eqb, ne-eqb}
-use mathlib.Core.Path.{sym, _∙_}
+use mathlib.Core.Path.{sym}
 use Rattle.fields.specs.Grammar.{mayFollow}
 use borrow.Author.Needs.{needs}
 use Rattle.fields.proofs.grammar.may_follow.Statement.{statement}

@@ -1,8 +1,6 @@
 -- `answer_parts` meets its contract: what judges the job, and then the answer.
 use mathlib.Core.Path.{sym, _∙_}
 use native.Mathlib.Omega.{arith}
-use Rattle.chains.specs.Judge.{verdictOf}
-use Rattle.chains.specs.declared.Verdict.{Verdict}
 use Rattle.jobs.proofs.Answering.{verdict-number, refused-as, answered-refused, answered-accepted}
 use borrow.Author.Needs.{needs}
 use Rattle.jobs.proofs.answer.answer_parts.Statement.{statement}

@@ -1,7 +1,6 @@
 -- `write_row` meets its contract: its coefficients mapped through the steps, and what was behind them.
 use mathlib.Core.Path.{sym, ap}
 use mathlib.Core.List.{List, _++_}
-use native.Mathlib.Omega.{arith}
 use Prim.Native.Nat.{ℕ}
 use lib.ListN.{drop}
 use lib.Seq.{length-take-le}

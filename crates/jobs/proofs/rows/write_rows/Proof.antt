@@ -1,5 +1,5 @@
 -- `write_rows` meets its contract: the loop's invariant is `RowsWritten`.
-use mathlib.Core.Path.{_≡_, ap, sym, _∙_}
+use mathlib.Core.Path.{_≡_}
 use Prim.Native.Nat.{_+_, _-_, _≤_, _<_}
 use native.Mathlib.Omega.{arith}
 use lib.ListN.{length, length-drop}

@@ -1,5 +1,4 @@
 -- `put_accepted` meets its contract.
-use Rattle.report.proofs.Puts.{put-length}
 use Rattle.report.proofs.Texts.{accepted-put}
 use borrow.Author.Needs.{needs}
 use Rattle.report.proofs.lines.put_accepted.Statement.{statement}

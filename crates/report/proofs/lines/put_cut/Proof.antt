@@ -1,5 +1,4 @@
 -- `put_cut` meets its contract.
-use Rattle.report.proofs.Puts.{put-length}
 use Rattle.report.proofs.Texts.{cut-put}
 use borrow.Author.Needs.{needs}
 use Rattle.report.proofs.lines.put_cut.Statement.{statement}

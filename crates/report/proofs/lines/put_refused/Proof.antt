@@ -1,7 +1,6 @@
 -- `put_refused` meets its contract.
 use mathlib.Core.Path.{sym}
 use lib.Seq.{length-take-le}
-use Rattle.report.proofs.Puts.{put-length}
 use Rattle.report.proofs.Texts.{refused-one, refused-two}
 use borrow.Author.Needs.{needs}
 use Rattle.report.proofs.lines.put_refused.Statement.{statement}

@@ -1,5 +1,4 @@
 -- `put_refused_line` meets its contract.
-use Rattle.report.proofs.Puts.{put-length}
 use Rattle.report.proofs.Values.{line-put, values-three}
 use borrow.Author.Needs.{needs}
 use Rattle.report.proofs.lines.put_refused_line.Statement.{statement}

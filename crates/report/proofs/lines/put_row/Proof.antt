@@ -1,5 +1,4 @@
 -- `put_row` meets its contract.
-use Rattle.report.proofs.Puts.{put-length}
 use Rattle.report.proofs.Texts.{row-none, row-some}
 use borrow.Author.Needs.{needs}
 use Rattle.report.proofs.lines.put_row.Statement.{statement}
