@@ -225,6 +225,15 @@ static void prepare_table_job(int tables)
     put_tables(tables);
 }
 
+/* The last table has an entry too few for the capacity that it gets. */
+static void prepare_short_table(int tables)
+{
+    prepare_table_job(tables - 1);
+    entries = WINDOWFLOOR_MOST_ENTRIES - 1;
+    draw_table();
+    put_table();
+}
+
 /* Right sides with the same remainder by 700: the first step, of family 5, leaves them enough for the
  * others. */
 static void prepare_family_rows(int of_rows)
@@ -260,13 +269,18 @@ struct row {
     double per_second; /* units */
     double inputs;     /* of one call */
     double at_most;    /* this many times the row before; 0: no such goal */
+    uint64_t number;   /* that refuses it, or 0 */
 };
 
-#define IMAGE_ROW(with, name) {"image, " name, prepare_images, with, run_images, "ns", 1e9, IMAGES, 0}
-#define TABLE_ROW(with, c) {"table check, C = " c, prepare_table, with, run_table_check, "µs", 1e6, 1, 0}
-#define JOB_ROW(prepare, with, what, at_most) {"job, " what, prepare, with, run_one_job, "µs", 1e6, 1, at_most}
+#define IMAGE_ROW(with, name) {"image, " name, prepare_images, with, run_images, "ns", 1e9, IMAGES, 0, 0}
+#define TABLE_ROW(with, c) {"table check, C = " c, prepare_table, with, run_table_check, "µs", 1e6, 1, 0, 0}
+#define JOB_ROW(prepare, with, what, at_most) \
+    {"job, " what, prepare, with, run_one_job, "µs", 1e6, 1, at_most, 0}
+#define SHORT_TABLE_ROW(with, what, at_most) \
+    {"job, " what, prepare_short_table, with, run_one_job, "µs", 1e6, 1, at_most, \
+     WINDOWFLOOR_OTHER_CAPACITY}
 #define SWEEP_ROW(with, name) \
-    {"sweep, 4,096 p × 2,048 sizes, " name, prepare_sweep, with, run_one_sweep, "ms", 1e3, 1, 0}
+    {"sweep, 4,096 p × 2,048 sizes, " name, prepare_sweep, with, run_one_sweep, "ms", 1e3, 1, 0, 0}
 
 static const struct row rows[] = {
     IMAGE_ROW(1, "family 1 (threshold)"),
@@ -283,6 +297,9 @@ static const struct row rows[] = {
     JOB_ROW(prepare_family_job, 1, "2,048 sizes, 1 family step", 0),
     JOB_ROW(prepare_family_job, 8, "2,048 sizes, 8 family steps", 0),
     JOB_ROW(prepare_table_job, 7, "2,039 sizes, 7 tables of 2,048 entries", 0),
+    JOB_ROW(prepare_table_job, 1, "2,039 sizes, 1 table of 2,048 entries", 0),
+    SHORT_TABLE_ROW(2, "2,039 sizes, 1 table of 2,048 entries, then one refused with 18", 1.3),
+    SHORT_TABLE_ROW(1, "2,039 sizes, the first table refused with 18", 0.05),
     JOB_ROW(prepare_family_rows, 1, "1 row of 2,048 coefficients, 8 family steps", 0),
     JOB_ROW(prepare_family_rows, 64, "64 rows of 32 coefficients, 8 family steps", 1.5),
     JOB_ROW(prepare_table_rows, 1, "1 row of 1,920 coefficients, 7 tables of 2,048 entries", 0),
@@ -305,7 +322,8 @@ static uint64_t digest(void)
     return sum;
 }
 
-/* All three accept, and leave the same answers and buffers. (A job's working buffer is free.) */
+/* All three accept, or refuse by the row's number, and leave the same answers and buffers. (A job's working
+ * buffer is free.) */
 static void compare(const struct row *row)
 {
     uint64_t results[CONTENDERS];
@@ -315,8 +333,8 @@ static void compare(const struct row *row)
         if (row->run == run_one_job)
             memset(out.working, 0, sizeof out.working);
         results[who] = digest();
-        if (out.answer[0] != 0 || results[who] != results[LIBRARY]) {
-            fprintf(stderr, "bench: %s: %s refuses or differs\n", row->name, contenders[who].name);
+        if (out.answer[0] != row->number || results[who] != results[LIBRARY]) {
+            fprintf(stderr, "bench: %s: %s has another number or differs\n", row->name, contenders[who].name);
             exit(1);
         }
     }
@@ -393,8 +411,8 @@ static void print_times(const struct row *row, struct samples *samples)
 {
     printf("| %s |", row->name);
     for (int who = 0; who < CONTENDERS; who++)
-        printf(" %.2f |", median(row, samples, who) / median(row - 1, samples - 1, who));
-    printf(" %.1f |\n", row->at_most);
+        printf(" %.3f |", median(row, samples, who) / median(row - 1, samples - 1, who));
+    printf(" %.2f |\n", row->at_most);
 }
 
 static void print_head(const char *first, const char *last)
@@ -415,7 +433,7 @@ static void print_tables(struct samples *samples)
     for (int i = 0; i < ROWS; i++)
         print_row(&rows[i], &samples[i]);
     printf("\n");
-    print_head(" in times of the same job with 1 row", "at most");
+    print_head(" in times of the row before", "at most");
     printf("\n");
     for (int i = 0; i < ROWS; i++)
         if (rows[i].at_most > 0)

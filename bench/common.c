@@ -207,6 +207,8 @@ static uint64_t table_step(const struct parts *parts, const struct step *step, s
 {
     uint32_t table[WINDOWFLOOR_MOST_ENTRIES];
     size_t entries = step->length / 4;
+    if (entries - 1 != chain->scale)
+        return WINDOWFLOOR_OTHER_CAPACITY;
     decode(step->value, table, entries);
     struct windowfloor_table_answer checked =
         check_table(parts, table, entries, working, WINDOWFLOOR_JOB_WORKING, list,
@@ -214,8 +216,6 @@ static uint64_t table_step(const struct parts *parts, const struct step *step, s
     *length = checked.length;
     if (checked.number != 0)
         return checked.number;
-    if (entries - 1 != chain->scale)
-        return WINDOWFLOOR_OTHER_CAPACITY;
     for (size_t i = 0; i < chain->n; i++)
         chain->images[i] = table[chain->images[i]];
     chain->scale = table[entries - 1];

@@ -20,7 +20,7 @@ extern "C" {
 #endif
 
 /* The version of this header and of the library: CHANGELOG.md says what came with it. */
-#define WINDOWFLOOR_VERSION "2.0.0"
+#define WINDOWFLOOR_VERSION "2.1.0"
 
 /* Limits: unsigned constants. */
 #define WINDOWFLOOR_LIMIT 1000000000u     /* the greatest capacity, parameter, scale and table entry */
@@ -139,7 +139,7 @@ struct windowfloor_table_answer windowfloor_table_check(const uint32_t *table, s
 /* A job: the sizes taken through its steps, for a floor or a cut; in kind 3 each row's coefficients, for a
  * cut of each row. The buffers have at least the places named above, whatever the kind.
  * Refusals, in order: 12, 7; for each field 13, 14, 15; then 16, 21; then 1, 17; then for each step 2, 3, 4
- * of a family, or 8, 9, 10, 11, 18 of a table. In kind 3 all from 1 on is asked of row 1, then of row 2,
+ * of a family, or 18, 8, 9, 10, 11 of a table. In kind 3 all from 1 on is asked of row 1, then of row 2,
  * and so on.
  * Accepted: the first n places of `images` hold the images, those of a row behind those of the row
  * before. In kind 3 the first places of `scales`, one for each row, hold the right sides of the cuts. A

@@ -18,11 +18,16 @@
 enum { DEFAULT_SEED = 1, DEFAULT_ROUNDS = 50000 };
 enum { NUMBERS = WINDOWFLOOR_LAST_REFUSAL + 1, STEPS = WINDOWFLOOR_MOST_STEPS + 1 };
 
-/* Jobs whose fourth byte is 3 are counted as rows; numbers that name a row are counted once more. */
-enum tally { IMAGE, TABLE, JOB, ROWS, SWEEP, OPERATIONS, ROW_1 = OPERATIONS, LATER_ROW, TALLIES };
+/* Jobs whose fourth byte is 3 are counted as rows; numbers that name a row are counted once more. For 18,
+ * which goes before 8 to 11, what the table check says of the table is counted, for each kind. */
+enum tally {
+    IMAGE, TABLE, JOB, ROWS, SWEEP, OPERATIONS,
+    ROW_1 = OPERATIONS, LATER_ROW, BEHIND_18, LAST_BEHIND_18 = BEHIND_18 + 2, TALLIES
+};
 
 static const char *const names[TALLIES] = {
     "image", "table check", "job", "job of rows", "sweep", "  in row 1", "  later row",
+    "  floor", "  cut", "  rows",
 };
 
 /* Accepted jobs: those of several rows by what the steps make of the right sides. */
@@ -196,14 +201,17 @@ static int is_rows(const struct job_input *in)
     return in->length > 3 && in->bytes[3] == WINDOWFLOOR_KIND_ROWS;
 }
 
+static size_t value_bytes(const struct job_input *in, size_t at)
+{
+    return (size_t)in->bytes[at + 1] * 256 + in->bytes[at + 2];
+}
+
 /* How many fields of an accepted job have a tag from first to last. */
 static size_t fields_of(const struct job_input *in, uint8_t first, uint8_t last)
 {
     size_t fields = 0;
-    for (size_t at = 0; at < in->length;) {
+    for (size_t at = 0; at < in->length; at += 3 + value_bytes(in, at))
         fields += in->bytes[at] >= first && in->bytes[at] <= last;
-        at += 3 + (size_t)in->bytes[at + 1] * 256 + in->bytes[at + 2];
-    }
     return fields;
 }
 
@@ -251,6 +259,37 @@ static void count_shape(const struct job_input *in, const uint32_t *scales)
     accepted_shapes[MOST_ROWS] += rows == WINDOWFLOOR_MOST_ROWS;
 }
 
+/* Where a step starts, counted from 1, in a job that has so many. */
+static size_t step_at(const struct job_input *in, uint64_t step)
+{
+    size_t at = 0;
+    for (;; at += 3 + value_bytes(in, at)) {
+        step -= in->bytes[at] == WINDOWFLOOR_TAG_FAMILY || in->bytes[at] == WINDOWFLOOR_TAG_TABLE;
+        if (step == 0)
+            return at;
+    }
+}
+
+/* What the table check says of the table that this step is. */
+static uint64_t check_step(const struct job_input *in, uint64_t step)
+{
+    static uint32_t entries[WINDOWFLOOR_MOST_ENTRIES], list[WINDOWFLOOR_JOB_LIST];
+    static uint64_t working[WINDOWFLOOR_JOB_WORKING];
+    size_t at = step_at(in, step), count = value_bytes(in, at) / 4;
+    for (size_t x = 0; x < count; x++)
+        entries[x] = (uint32_t)read_number(in, at + 3 + 4 * x);
+    return reference_table_check(entries, count, working, WINDOWFLOOR_JOB_WORKING, list,
+                                 WINDOWFLOOR_JOB_LIST).number;
+}
+
+static void count_refusal(const struct job_input *in, const struct windowfloor_job_answer *answer)
+{
+    if (answer->row > 0)
+        seen[answer->row == 1 ? ROW_1 : LATER_ROW][answer->number]++;
+    if (answer->number == WINDOWFLOOR_OTHER_CAPACITY)
+        seen[BEHIND_18 + in->bytes[3] - WINDOWFLOOR_KIND_FLOOR][check_step(in, answer->step)]++;
+}
+
 static void compare_job(const struct job_input *in)
 {
     static struct lent images, working, list, scales;
@@ -276,8 +315,8 @@ static void compare_job(const struct job_input *in)
     count_step(in, &library);
     if (library.number == 0)
         count_shape(in, library_places(&scales));
-    if (library.row > 0)
-        seen[library.row == 1 ? ROW_1 : LATER_ROW][library.number]++;
+    else
+        count_refusal(in, &library);
 }
 
 static void compare_sweep(const struct sweep_input *in)
@@ -358,7 +397,7 @@ static void compare_round(void)
 }
 
 /* Coverage: the numbers that each operation has to have given. In a later row there is no 2 and no 8 to
- * 11: a step that has one of them, in whatever row, has it in row 1. */
+ * 11: they do not depend on the row, and row 1 has got through every step. */
 
 static const unsigned char due[TALLIES][NUMBERS] = {
     [IMAGE] = {[0] = 1, [1] = 1, [2] = 1, [3] = 1, [4] = 1, [5] = 1},
@@ -371,6 +410,9 @@ static const unsigned char due[TALLIES][NUMBERS] = {
     [ROW_1] = {[1] = 1, [2] = 1, [3] = 1, [4] = 1, [8] = 1, [9] = 1, [10] = 1, [11] = 1, [17] = 1,
                [18] = 1},
     [LATER_ROW] = {[1] = 1, [3] = 1, [4] = 1, [17] = 1, [18] = 1},
+    [BEHIND_18] = {[0] = 1, [8] = 1, [9] = 1, [10] = 1, [11] = 1},
+    [BEHIND_18 + 1] = {[0] = 1, [8] = 1, [9] = 1, [10] = 1, [11] = 1},
+    [BEHIND_18 + 2] = {[0] = 1, [8] = 1, [9] = 1, [10] = 1, [11] = 1},
 };
 
 /* Prints the counts of a tally; answers its inputs. */
@@ -432,6 +474,9 @@ static unsigned long report_all(int *lacking)
     printf("refused jobs of rows by number\n");
     report(ROW_1, lacking);
     report(LATER_ROW, lacking);
+    printf("tables refused with 18 by what the table check says\n");
+    for (enum tally kind = BEHIND_18; kind <= LAST_BEHIND_18; kind++)
+        report(kind, lacking);
     report_shapes(lacking);
     report_steps("accepted jobs by steps  ", accepted_steps[0], lacking);
     report_steps("  of rows               ", accepted_steps[1], lacking);

@@ -338,12 +338,13 @@ static uint64_t put_random_family(struct job_input *in, uint64_t present)
     return at_0.number == 0 ? at_0.scale : present;
 }
 
-static uint64_t put_random_table(struct job_input *in, uint64_t present)
+/* A table of any capacity is often bad in its entries too. */
+static uint64_t put_random_table(struct job_input *in, uint64_t present, int any_capacity)
 {
     uint32_t entries[ROOM_ENTRIES];
-    size_t capacity = one_in(30) ? table_capacity() : present;
+    size_t capacity = any_capacity ? table_capacity() : present;
     fill_table(entries, capacity);
-    if (one_in(30))
+    if (one_in(any_capacity ? 2 : 30))
         spoil_table(entries, capacity + 1);
     put_table(in, entries, capacity + 1);
     return entries[capacity] == 0 || entries[capacity] > LIMIT ? present : entries[capacity];
@@ -353,7 +354,7 @@ static uint64_t put_random_step(struct job_input *in, uint64_t present)
 {
     int small = present <= 60 || (present <= 2047 && one_in(20));
     if ((small && below(2)) || one_in(100))
-        return put_random_table(in, small ? present : table_capacity());
+        return put_random_table(in, present, !small || one_in(20));
     return put_random_family(in, present);
 }
 
@@ -458,7 +459,7 @@ static void pad_to(struct job_input *in, size_t length)
         put_byte(in, below(256));
 }
 
-static uint64_t read_number(const struct job_input *in, size_t at)
+uint64_t read_number(const struct job_input *in, size_t at)
 {
     const uint8_t *b = in->bytes + at;
     return (uint64_t)b[0] << 24 | (uint64_t)b[1] << 16 | (uint64_t)b[2] << 8 | b[3];

@@ -44,6 +44,9 @@ void random_table(struct table_input *in);
 void random_job(struct job_input *in);
 void random_sweep(struct sweep_input *in);
 
+/* The four-byte number at a place of the job. */
+uint64_t read_number(const struct job_input *in, size_t at);
+
 /* A job of the kind, with a field of this tag whose value has this length. */
 void job_of_length(struct job_input *in, unsigned kind, unsigned tag, size_t length);
 

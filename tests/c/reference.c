@@ -424,13 +424,13 @@ static uint64_t family_step(struct field f, struct chain *chain)
 static uint64_t table_step(struct field f, struct chain *chain, uint32_t *list, uint64_t *length)
 {
     static uint64_t working[2048];
+    if (f.count - 1 != chain->scale)
+        return 18;
     struct windowfloor_table_answer checked =
         reference_table_check(f.numbers, f.count, working, 2048, list, 2047);
     *length = checked.length;
     if (checked.number != 0)
         return checked.number;
-    if (f.count - 1 != chain->scale)
-        return 18;
     for (size_t i = 0; i < chain->n; i++)
         chain->images[i] = f.numbers[chain->images[i]];
     chain->scale = f.numbers[f.count - 1];

@@ -43,6 +43,12 @@ def last_only(n, last):
     return table(*[0] * (n - 1), last)
 
 
+def bad_tables(capacity):
+    """Tables of this capacity, 2 or more, that the table check refuses with 8, 9, 10 and 11."""
+    zeros = [0] * (capacity - 2)
+    return table(1, 0, *zeros, 1), table(0, 1, *zeros, 0), table(0, 0, *zeros, LIMIT + 1), table(0, 1, *zeros, 1)
+
+
 def row(right, *coefficients):
     return field(6, words((right,) + coefficients))
 
@@ -66,6 +72,17 @@ BAD_STEPS = (
     table(0, LIMIT + 1, *[0] * 8, LIMIT), table(*range(10), 9), table(0, 1, *[0] * 8, 9),
     table(*range(12)), table(0, 1), table(*range(10)), table(1, 1), table(0, 0), table(0, MAX),
     table(0, 1, 1), table(1, MAX, 0), table(0, MAX, 0), table(*range(11), 10))
+
+
+def bad_tables_about_4():
+    """A capacity and steps that leave 4 to a bad table of 3, 4 or 5: the table alone, and behind a step that makes 4 of
+    5; then tables of 4 and of 5, in both orders."""
+    for bad in bad_tables(3) + bad_tables(4) + bad_tables(5):
+        yield 4, (bad,)
+        yield 5, (family(4, 3), bad)
+    for right, other in zip(bad_tables(4), bad_tables(5)):
+        yield 4, (right, other)
+        yield 4, (other, right)
 
 
 # Cases

@@ -20,8 +20,8 @@ sys.dont_write_bytecode = True
 import windowfloor as wf
 from case_files import store_or_check
 from job_bytes import (
-    BAD_STEPS, changed_value, cut_short, damaged, family, field, head, job, last_only, make, other_lengths,
-    other_tags, random_steps, table)
+    BAD_STEPS, bad_tables_about_4, changed_value, cut_short, damaged, family, field, head, job, last_only, make,
+    other_lengths, other_tags, random_steps, table)
 from row_cases import row_cases
 from table_cases import FAMILY_STEPS, LIMIT, MAX, MOST_PLACES, checksum
 
@@ -98,6 +98,12 @@ def bad_steps():
             yield make(job(1, 10, (3, 8, 10), *before[:place], step))
     for step, other in itertools.product(BAD_STEPS[::3], BAD_STEPS[::4]):
         yield make(job(2, 10, (0, 10), step, other))
+
+
+def other_capacities():
+    """Bad tables of the present capacity and of others; there 18 goes before 8 to 11."""
+    for kind, (capacity, steps) in itertools.product((1, 2), bad_tables_about_4()):
+        yield make(job(kind, capacity, (1, 3), *steps))
 
 
 def capacities():
@@ -201,8 +207,8 @@ def random_cases():
 def all_cases():
     """Each case once, in the order of its first making."""
     cases = {}
-    for part in (reckoned, form, truncated, tag_orders, lengths, chains, bad_steps, capacities,
-                 kinds, counts, buffers, longest, random_cases, row_cases):
+    for part in (reckoned, form, truncated, tag_orders, lengths, chains, bad_steps, other_capacities,
+                 capacities, kinds, counts, buffers, longest, random_cases, row_cases):
         cases.update(dict.fromkeys(part()))
     return list(cases)
 

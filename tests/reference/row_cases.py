@@ -6,8 +6,8 @@ import random
 
 import windowfloor as wf
 from job_bytes import (
-    BAD_STEPS, changed_value, cut_short, damaged, family, field, head, job, last_only, make, other_lengths,
-    other_tags, random_steps, row, rows_fields, rows_job, table, words)
+    BAD_STEPS, bad_tables_about_4, changed_value, cut_short, damaged, family, field, head, job, last_only, make,
+    other_lengths, other_tags, random_steps, row, rows_fields, rows_job, table, words)
 from table_cases import FAMILY_STEPS, LIMIT, MAX, MOST_PLACES
 
 RANDOM = 100  # of each kind
@@ -149,6 +149,12 @@ def tables_in_rows():
     yield rows_job([(2046, 3), (2047, 3)], longest_list)
 
 
+def other_capacities():
+    """Bad tables of the capacity that row 1 leaves them, of row 2's and of none: 18 goes before 8 to 11."""
+    for capacity, steps in bad_tables_about_4():
+        yield rows_job([(capacity, 3), (9 - capacity, 3)], *steps)
+
+
 def longest():
     """A job of 65,533 bytes, next to it, and over the most."""
     rows = [(2047, 2047, 5), (2047,) + (0,) * 1923] + [(2047, 9)] * 2 + [(2047,)] * 59 + [(2047, 2046, 2047)]
@@ -265,7 +271,7 @@ def buffers():
 
 def row_cases():
     for part in (numbers_of_rows, numbers_of_coefficients, no_rows, out_of_place, fourth_bytes, lengths,
-                 defects_behind_21, numbers_of_steps, right_sides, tables_in_rows, longest, refused_steps, two_defects,
-                 every_byte, random_jobs):
+                 defects_behind_21, numbers_of_steps, right_sides, tables_in_rows, other_capacities, longest,
+                 refused_steps, two_defects, every_byte, random_jobs):
         yield from map(make, part())
     yield from buffers()

@@ -1,6 +1,7 @@
 """Tests of the reference: the examples of the scope document ("01"), values
-reckoned by hand from it and from the change request for many rows ("02", ticket
-1), and brute force over small capacities."""
+reckoned by hand from it and from the change requests for many rows and for
+tables of another capacity ("02", tickets 1 and 2), and brute force over small
+capacities."""
 
 import random
 import unittest
@@ -8,7 +9,7 @@ from functools import lru_cache
 
 import windowfloor as wf
 from job_bytes import (
-    family as family_step, field, job as make_job, row, rows_job, table as table_step, word)
+    bad_tables, family as family_step, field, job as make_job, row, rows_job, table as table_step, word)
 
 LIMIT = 1_000_000_000
 MARK = 77  # fills places that have to stay
@@ -343,10 +344,10 @@ class Jobs(Refusals):
             (make_job(1, 10, [1], ok, family_step(8, 0)), refused(2, 2)),
             (make_job(1, 10, [], ok, ok, family_step(2, 0)), refused(3, 3)),
             (make_job(1, 10, [1], family_step(2, LIMIT)), refused(4, 1)),
-            (make_job(1, 10, [1], ok, table_step(1, 0)), refused(8, 2)),
-            (make_job(1, 10, [1], ok, table_step(0, 0)), refused(9, 2)),
-            (make_job(1, 10, [1], ok, table_step(0, LIMIT + 1)), refused(10, 2)),
-            (make_job(1, 10, [1], ok, table_step(0, 1, 1, 2)), refused(11, 2, 3)),
+            (make_job(1, 3, [1], table_step(0, 1, 2, 3), table_step(1, 0, 0, 0)), refused(8, 2)),
+            (make_job(1, 10, [1], ok, table_step(0, LIMIT + 1, *[0] * 9)), refused(9, 2)),
+            (make_job(1, 10, [1], ok, table_step(0, LIMIT + 1, *[0] * 8, 1)), refused(10, 2)),
+            (make_job(1, 10, [1], ok, table_step(0, 1, *[0] * 8, 2)), refused(11, 2, 10)),
             (make_job(1, 10, [1], ok, table_step(0, 1, 2, 3)), refused(18, 2))])
 
     def test_accepted_chain_and_places_that_stay(self):
@@ -472,10 +473,10 @@ class Rows(Refusals):
         rows, step = [(10, 7), (10, 7)], family_step(1, 3)
         self.refusals([
             (rows_job(rows, step, family_step(8, 0)), refused(2, 2, row=1)),
-            (rows_job(rows, table_step(1, 1)), refused(8, 1, row=1)),
-            (rows_job(rows, step, table_step(0, 0)), refused(9, 2, row=1)),
-            (rows_job(rows, table_step(0, LIMIT + 1)), refused(10, 1, row=1)),
-            (rows_job(rows, step, table_step(0, 1, 1, 2)), refused(11, 2, 3, row=1))])
+            (rows_job(rows, table_step(1, *[0] * 9, 1)), refused(8, 1, row=1)),
+            (rows_job(rows, step, table_step(*[0] * 11)), refused(9, 2, row=1)),
+            (rows_job(rows, table_step(*[0] * 10, LIMIT + 1)), refused(10, 1, row=1)),
+            (rows_job(rows, step, table_step(0, 1, *[0] * 8, 2)), refused(11, 2, 10, row=1))])
 
     def test_order(self):
         step, wrong = family_step(1, 3), family_step(1, 6)
@@ -486,7 +487,7 @@ class Rows(Refusals):
             (rows_job([(12, 5), over], wrong), refused(17, row=2)),
             (rows_job([(12, 5), good], wrong), refused(3, 1, row=2)),
             (rows_job([over, good], wrong), refused(17, row=1)),
-            (rows_job([good, over], table_step(0, 1, 1)), refused(11, 1, 2, row=1)),
+            (rows_job([good, over], table_step(0, 1, *[0] * 8, 2)), refused(11, 1, 10, row=1)),
             (rows_job([good, (11, 5), zero], step, IDENTITY), refused(18, 2, row=2)),
             (rows_job([good, (11, 12)], IDENTITY), refused(17, row=2)),
             (rows_job([good, (0, 1)], IDENTITY), refused(1, row=2))])
@@ -541,6 +542,88 @@ class Rows(Refusals):
                 at += right + 1
 
 
+class OtherCapacity(Refusals):
+    """02, ticket 2: within a table step 18 comes first, then 8, 9, 10 and 11."""
+
+    def bad(self, number, capacity, step=1, row=0):
+        """What bad_tables of the present capacity give: the list with 11 is a size 1 for each unit of it."""
+        return refused(number, step, capacity if number == 11 else 0, row)
+
+    def by_capacity(self, present, make, step=1, row=0):
+        """The job that make makes of a bad table: of the present capacity, and of smaller and greater ones."""
+        for capacity in (2, present - 1, present + 1, present + 90):
+            self.refusals([(make(table), refused(18, step, row=row)) for table in bad_tables(capacity)])
+        self.refusals([(make(table), self.bad(number, present, step, row))
+                       for number, table in enumerate(bad_tables(present), start=8)])
+
+    def test_first_step(self):
+        for kind in (1, 2):
+            self.by_capacity(10, lambda table: make_job(kind, 10, [3, 10], table))
+            self.by_capacity(10, lambda table: make_job(kind, 10, [], table, family_step(0, 0)))
+            self.refusals([(make_job(kind, LIMIT, [3], table), refused(18, 1)) for table in bad_tables(2047)])
+        self.refusals([(make_job(1, 10, [3], table_step(1, LIMIT + 1, 0)), refused(18, 1))])
+
+    def test_behind_steps(self):
+        """The present capacity is the scale before and not the job's own: 20 behind a family, 7 behind a table."""
+        to_20, to_7, same = family_step(2, 2), table_step(*[0] * 10, 7), family_step(1, 3)
+        for kind in (1, 2):
+            self.by_capacity(20, lambda table: make_job(kind, 10, [3, 10], to_20, table), step=2)
+            self.by_capacity(7, lambda table: make_job(kind, 10, [3, 10], to_7, table), step=2)
+            self.by_capacity(7, lambda table: make_job(kind, 10, [3, 10], *[same] * 6, to_7, table), step=8)
+            for step in (to_20, to_7):
+                self.refusals([(make_job(kind, 10, [3], step, table), refused(18, 2)) for table in bad_tables(10)])
+
+    def test_first_row(self):
+        """Also where the table is of row 2's right side, or of every row's and not of the scale before."""
+        to_10 = family_step(4, 6)  # at every capacity from 6 up
+        self.by_capacity(10, lambda table: rows_job([(10, 3), (10, 5)], table), row=1)
+        self.by_capacity(10, lambda table: rows_job([(10, 3), (9, 5), (0, 1)], table), row=1)
+        self.by_capacity(10, lambda table: rows_job([(12, 3), (13, 5)], to_10, IDENTITY, table), step=3, row=1)
+        self.refusals([(rows_job([(12, 3), (12, 5)], to_10, table), refused(18, 2, row=1)) for table in bad_tables(12)])
+
+    def test_later_row(self):
+        """Row 1 finds what is wrong in a table of its right side; one in order may be of another in a later row."""
+        for before, right in ((1, 9), (1, 11), (2, LIMIT), (63, 9)):
+            rows = [(10, 3)] * before + [(right, 5)]
+            self.refusals([(rows_job(rows, IDENTITY), refused(18, 1, row=before + 1)),
+                           (rows_job(rows, family_step(1, 0), IDENTITY), refused(18, 2, row=before + 1))])
+            self.by_capacity(10, lambda table: rows_job(rows, IDENTITY, table), step=2, row=1)
+
+    def test_the_first_table_decides(self):
+        """A bad one of the right capacity and a bad one of another, in both orders."""
+        rows = [(10, 3), (9, 5)]
+        for number, (right, other) in enumerate(zip(bad_tables(10), bad_tables(9)), start=8):
+            self.refusals([
+                (make_job(1, 10, [3], right, other), self.bad(number, 10)),
+                (make_job(1, 10, [3], other, right), refused(18, 1)),
+                (make_job(2, 10, [3], IDENTITY, right, other), self.bad(number, 10, step=2)),
+                (make_job(2, 10, [3], IDENTITY, other, right), refused(18, 2)),
+                (rows_job(rows, right, other), self.bad(number, 10, row=1)),
+                (rows_job(rows, other, right), refused(18, 1, row=1))])
+
+    def test_what_comes_before(self):
+        short = [MARK] * 2048, [MARK] * 2048, [MARK] * 2046, [MARK] * 64
+        for table in bad_tables(9):
+            self.assertEqual(wf.job(make_job(1, 10, [3], table), *short), refused(7))
+            self.refusals([
+                (make_job(1, 10, [3], table) + b"\5", refused(13)), (make_job(4, 10, [3], table), refused(16)),
+                (KIND_3 + table, refused(21)), (make_job(1, 0, [], table), refused(1)),
+                (make_job(1, 10, [11], table), refused(17)), (rows_job([(10, 11)], table), refused(17, row=1)),
+                (make_job(1, 10, [3], family_step(8, 0), table), refused(2, 1))])
+
+    def test_table_check(self):
+        """Outside jobs there is no present capacity: 8 to 11 as they were."""
+        for number, table in enumerate(bad_tables(9), start=8):
+            due = number, 9 if number == 11 else 0
+            self.assertEqual(wf.table_check(wf.numbers_of(table[3:]), [MARK] * 10, [MARK] * 9), due)
+
+    def test_texts(self):
+        """No list comes with 18."""
+        for table in bad_tables(9):
+            self.assertEqual(wf.program(make_job(1, 10, [3], table)), b"refused 18 1\n")
+            self.assertEqual(wf.program(rows_job([(10, 3)], IDENTITY, table)), b"refused 18 1 2\n")
+
+
 class RowTexts(unittest.TestCase):
     """02, ticket 1: what the program prints for kind 3, and where the fourth byte is 3."""
 
@@ -554,7 +637,7 @@ class RowTexts(unittest.TestCase):
         for data, text in [
                 (rows_job([(10, 5), (10, 11)]), b"refused 17 2 0\n"), (KIND_3, b"refused 21 0 0\n"),
                 (rows_job([(10, 5), (11, 5)], IDENTITY), b"refused 18 2 1\n"), (KIND_3 + b"\6", b"refused 13 0 0\n"),
-                (rows_job([(10,)], table_step(0, 0, 2, 1)), b"refused 11 1 1\nlist 1 2\n"),
+                (rows_job([(3,)], table_step(0, 0, 2, 1)), b"refused 11 1 1\nlist 1 2\n"),
                 (KIND_3 + bytes(65532), b"refused 12 0 0\n"), (bytes(65536), b"refused 12 0\n"),
                 (bytes([3] * 65536), b"refused 12 0 0\n")]:
             self.assertEqual(wf.program(data), text)

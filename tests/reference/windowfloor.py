@@ -1,6 +1,7 @@
 """Reference for the operations of the scope document ("01") with the change
-request for many rows ("02", ticket 1), written for clarity. Comments name the
-section of 01, or the ticket of 02, that a function follows."""
+requests for many rows and for tables of another capacity ("02", tickets 1 and
+2), written for clarity. Comments name the section of 01, or the ticket of 02,
+that a function follows."""
 
 import sys
 from functools import lru_cache
@@ -379,13 +380,13 @@ def family_step(value, capacity, images):
 
 
 def table_step(value, capacity, images, working, lst):
-    """Jobs, tag 5."""
+    """Jobs, tag 5; 02, ticket 2: 18 comes first."""
     entries = numbers_of(value)
+    if len(entries) - 1 != capacity:
+        return OTHER_CAPACITY, 0, [], 0
     number, length = table_check(entries, working, lst)
     if number != ACCEPTED:
         return number, length, [], 0
-    if len(entries) - 1 != capacity:
-        return OTHER_CAPACITY, 0, [], 0
     return ACCEPTED, 0, [entries[x] for x in images], entries[-1]
 
 

@@ -33,9 +33,15 @@ def table(given):
     return answer | dict(working=changed(working, WIDE), list=changed(listed))
 
 
+def lent(given):
+    """The buffers of a job: images, working, list and scales."""
+    return (lend(given, "images", 2048), lend(given, "working", 2048, WIDE), lend(given, "list", 2047),
+            lend(given, "scales", 64))
+
+
 def job(given):
-    images, listed, scales = lend(given, "images", 2048), lend(given, "list", 2047), lend(given, "scales", 64)
-    numbers = wf.job(given["job"], images, lend(given, "working", 2048, WIDE), listed, scales)
+    images, working, listed, scales = lent(given)
+    numbers = wf.job(given["job"], images, working, listed, scales)
     answer = named("number n floor sum scale step length row", numbers)
     return answer | dict(images=changed(images), list=changed(listed), scales=changed(scales))
 

@@ -3,6 +3,7 @@ thing that it is there to find."""
 
 import contextlib
 import io
+import itertools
 import random
 import sys
 import tempfile
@@ -12,6 +13,8 @@ from pathlib import Path
 sys.dont_write_bytecode = True
 from compare import compare
 from exceptions import EXCEPTIONS, Rule
+from inputs_base import IDENTITY, LIMIT, family, job, tabled
+from inputs_request_1 import KIND_3, model
 from stored import LIST, pack_bytes, pack_numbers, unpack_bytes, unpack_numbers
 
 IMAGE = "capacity=10 family=1 p=3 q=0 x=8 -> number=0 image=10 scale=10"
@@ -20,9 +23,12 @@ JOB = ("job=01000101.0200040000000a.03000400000006 -> "
        "number=0 n=1 floor=1 sum=6 scale=10 step=0 length=0 images=0:6 list=same")
 ROWS = ("job=01000103.06000c0000000a0000000700000003.06000400000009 -> "
         "number=0 n=2 floor=0 sum=0 scale=0 step=0 length=0 row=0 images=0:7,3 list=same scales=0:10,9")
+OTHER_TABLE = ("job=01000101.0200040000000a.030000.05001000000000000000000000000200000001 -> "
+               "number=11 n=0 floor=0 sum=0 scale=0 step=1 length=2 images=same list=0:1,2")
 SWEEP = "capacity=10 family=1 sizes=6*3 low=0 high=5 -> number=0 floor=3 p=5"
 TEXT = "job= -> status=0 errors=0 text='refused 14 0\\n'"
 CASES = dict(image=IMAGE, table=TABLE, job=JOB, sweep=SWEEP, text=TEXT)
+BAD_TABLES = tabled(1, 0, 1), tabled(0, 1, 0), tabled(0, 0, LIMIT + 1), tabled(0, 1, 1)  # 8 to 11, of capacity 2
 
 
 def always(given):
@@ -126,11 +132,20 @@ class Comparison(unittest.TestCase):
         self.assert_passes("request 2: 1 cases", changed, [rule], release="request-1")
         self.assert_fails("line 1: image", changed, [rule], release="request-2")
 
+    def test_a_table_of_another_capacity(self):
+        """What request 2 makes of an answer that it changes."""
+        rules = [rule for rule in EXCEPTIONS if rule.request == 2]
+        self.assert_passes("request 2: 1 cases", dict(job=OTHER_TABLE), rules)
+        self.assert_passes("request 2: 1 cases", dict(job=OTHER_TABLE), rules, release="request-1")
+        self.assert_fails("line 1: number, length, list", dict(job=OTHER_TABLE), rules, release="request-2")
+        self.assert_fails("line 1: number, length, list", dict(job=OTHER_TABLE))
+
 
 class Exceptions(unittest.TestCase):
-    def excepted(self, operation, data):
-        given = dict(job=bytes.fromhex(data))
-        return any(operation in rule.operations and rule.applies(given) for rule in EXCEPTIONS if rule.request == 1)
+    def excepted(self, request, operation, data, **places):
+        given = dict(job=data, **places)
+        rules = [rule for rule in EXCEPTIONS if rule.request == request and operation in rule.operations]
+        return any(rule.applies(given) for rule in rules)
 
     def test_request_1(self):
         """Jobs by kind 3 in a first field of length 1, texts by the fourth byte."""
@@ -139,8 +154,39 @@ class Exceptions(unittest.TestCase):
                 ("01000104", False, False), ("0100020303", False, True), ("02000103", False, True),
                 ("00000003", False, True), ("010001", False, False), ("030303", False, False), ("", False, False),
                 ("01000102 03000103", False, False)):
-            self.assertEqual(self.excepted("job", data), of_jobs, data)
-            self.assertEqual(self.excepted("text", data), of_texts, data)
+            self.assertEqual(self.excepted(1, "job", bytes.fromhex(data)), of_jobs, data)
+            self.assertEqual(self.excepted(1, "text", bytes.fromhex(data)), of_texts, data)
+
+    def assert_request_2(self, applies, *datas):
+        for data, operation in itertools.product(datas, ("job", "text")):
+            self.assertEqual(self.excepted(2, operation, data), applies, data.hex())
+
+    def test_request_2_applies(self):
+        """A bad table that is reached where the present capacity is another one."""
+        for bad in BAD_TABLES:
+            self.assert_request_2(
+                True, job(1, 10, (3,), bad), job(2, 1, (0,), bad), job(1, LIMIT, (), bad),
+                job(1, 10, (3,), IDENTITY, bad), job(1, 2, (1,), family(2, 2), bad),
+                job(2, 10, (0,), *[family(1, 3)] * 7, bad), job(1, 10, (3,), bad, family(8, 1)),
+                model([(10, 3), (2, 1)], bad), model([(10,), (0, 1)], bad),
+                model([(2, 1), (2,)], family(2, 2), bad), model([(10, 3)] * 64, IDENTITY, bad))
+        self.assertTrue(self.excepted(2, "job", job(1, 10, (3,), BAD_TABLES[3]), list_places=2050))
+
+    def test_request_2_does_not_apply(self):
+        """The table is of the present capacity, in order, or not reached."""
+        good = tabled(0, 1, 2)
+        self.assert_request_2(False, b"", job(1, 10, (3,), good), job(1, 2, (2,), good), model([(2, 1), (3, 1)], good))
+        for bad in BAD_TABLES:
+            data = job(1, 10, (3,), bad)
+            self.assert_request_2(
+                False, job(1, 2, (2,), bad), job(2, 10, (3,), family(4, 2), bad), job(1, 10, (3,), good, bad),
+                job(1, 10, (3,), tabled(*range(10), 9), bad), job(1, 10, (3,), family(8, 1), bad),
+                job(1, 2, (2,), bad, tabled(1, 1)), job(1, 10, (11,), bad), job(1, 10, (0,), bad), job(1, 0, (), bad),
+                job(4, 10, (3,), bad), data[:-1], data + b"\5", data + bytes(65_536), KIND_3 + bad,
+                model([(10,)] * 65, bad), model([(2, 1), (10, 3)], bad), model([(10, 11)], bad),
+                model([(0,), (10,)], bad))
+            for name, places in (("images", 2047), ("working", 0), ("list", 2046), ("scales", 63)):
+                self.assertFalse(self.excepted(2, "job", data, **{name + "_places": places}))
 
 
 class StoredForm(unittest.TestCase):

@@ -1,38 +1,44 @@
 -- P3: one claim about a whole chain, from what families and tables promise and from composition alone.
-use mathlib.Core.Path.{_≡_, refl}
-use mathlib.Core.Bool.{Bool, true, false, cond}
+use mathlib.Core.Path.{_≡_, sym, _∙_}
 use mathlib.Core.List.{List, [], _∷_}
 use Prim.Native.Nat.{ℕ, _≤_}
+use native.Mathlib.Decide.{ℕ-discrete}
 use native.Mathlib.Omega.{arith}
-use borrow.Author.Tests.{eqb-true}
-use lib.Dec.{eqb}
+use borrow.Author.Tests.{eq-eqb, ne-eqb}
 use lib.ListN.{length}
 use Rattle.functions.specs.Words.{limit}
 use Rattle.functions.specs.Promise.{StepPromise}
-use Rattle.functions.proofs.Cases.{then-zero}
 use Rattle.functions.proofs.Totals.{identity-promise, composed-promise}
 use Rattle.functions.proofs.Promise.{family-promise}
 use Rattle.tables.specs.Table.{entry, tableCapacity, tableScale}
-use Rattle.tables.specs.Check.{tableRefusal}
 use Rattle.tables.proofs.Promise.{table-promise}
 use Rattle.fields.specs.Parts.{Step, onFamily, onTable}
-use Rattle.chains.specs.Chain.{contentsRefusal, capacityRefusal, stepImage, stepScale, stepRefusal, chainImage, chainScale, ChainAccepted}
+use Rattle.chains.specs.Chain.{contentsRefusal, stepImage, stepScale, stepRefusal, chainImage, chainScale, ChainAccepted}
 
--- an accepted table is of the present capacity
-pub table-capacity : (c : ℕ) (t : List ℕ) → stepRefusal c (onTable t) ≡ 0 → tableCapacity t ≡ c
-unfolding stepRefusal capacityRefusal
-table-capacity c t e = present (eqb (tableCapacity t) c) refl (then-zero (contentsRefusal (onTable t)) (capacityRefusal c t) e .1)
+-- another capacity is told first, whatever the entries are
+pub another-first : (c : ℕ) (t : List ℕ) → (tableCapacity t ≡ c → ⊥) → stepRefusal c (onTable t) ≡ 18
+unfolding stepRefusal
+another-first c t another = rw (ne-eqb (tableCapacity t) c another)
+
+-- so any other number is told of a table of the present capacity, by its entries
+pub told-by-entries : (c : ℕ) (t : List ℕ) (n : ℕ) → (n ≡ 18 → ⊥) → stepRefusal c (onTable t) ≡ n → (tableCapacity t ≡ c) × (contentsRefusal (onTable t) ≡ n)
+unfolding stepRefusal
+told-by-entries c t n other e = go (ℕ-discrete (tableCapacity t) c)
   where
-    present : (test : Bool) → eqb (tableCapacity t) c ≡ test → _≡_ {A = ℕ} (cond test 0 18) 0 → tableCapacity t ≡ c
-    present true is none = eqb-true (tableCapacity t) c is
-    present false is none = absurd (omega arith)
+    go : Dec (tableCapacity t ≡ c) → (tableCapacity t ≡ c) × (contentsRefusal (onTable t) ≡ n)
+    go (yes same) = (same, rw (eq-eqb (tableCapacity t) c same) at e)
+    go (no another) = absurd (other (sym e ∙ another-first c t another))
+
+-- an accepted table is of the present capacity and passes 8 to 11
+pub table-accepted : (c : ℕ) (t : List ℕ) → stepRefusal c (onTable t) ≡ 0 → (tableCapacity t ≡ c) × (contentsRefusal (onTable t) ≡ 0)
+table-accepted c t = told-by-entries c t 0 (λ e. omega arith)
 
 -- a table that the check accepts, at the present capacity
 table-step : (c : ℕ) (t : List ℕ) → stepRefusal c (onTable t) ≡ 0 → StepPromise (entry t) c (tableScale t)
-unfolding stepRefusal contentsRefusal
+unfolding contentsRefusal
 table-step c t e =
-    let passed = then-zero (tableRefusal t (length t) (tableCapacity t)) (capacityRefusal c t) e in
-    rw (table-capacity c t e) at (table-promise t (length t) (tableCapacity t) .step (passed .0))
+    let passed = table-accepted c t e in
+    rw (passed .0) at (table-promise t (length t) (tableCapacity t) .step (passed .1))
 
 pub step-promise : (c : ℕ) (s : Step) → 1 ≤ c → stepRefusal c s ≡ 0 → StepPromise (stepImage c s) c (stepScale c s)
 unfolding stepImage stepScale stepRefusal

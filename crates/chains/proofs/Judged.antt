@@ -1,27 +1,24 @@
 -- What the refusals of a list and of the steps leave of one that is accepted.
 use mathlib.Core.Path.{_≡_, refl, ap, sym, _∙_}
-use mathlib.Core.Bool.{Bool, true, false, cond, not}
+use mathlib.Core.Bool.{false, not}
 use mathlib.Core.List.{List, [], _∷_}
 use mathlib.Core.Logic.{⊎-elim}
-use Prim.Native.Nat.{ℕ, zero, suc, _-_, _≤_, _<_}
+use Prim.Native.Nat.{ℕ, zero, suc, _-_, _<_}
 use native.Mathlib.Nat.{eq-zero-or-pos}
 use native.Mathlib.Omega.{arith}
 use borrow.Author.Tests.{eq-eqb, ne-eqb}
-use lib.Dec.{eqb}
 use lib.ListN.{length, getD, drop}
 use Rattle.functions.specs.Words.{capacityFits}
-use Rattle.functions.proofs.Cases.{then-zero}
 use Rattle.functions.proofs.Legal.{passed, capacity-bounds, family-refusal-most}
-use Rattle.tables.specs.Table.{tableCapacity, counterexample}
-use Rattle.tables.specs.Check.{tableRefusal}
-use Rattle.tables.specs.Promise.{Overshoots}
+use Rattle.tables.specs.Table.{tableCapacity}
 use Rattle.tables.proofs.Promise.{counterexample-promise}
 use Rattle.fields.specs.Parts.{Step, onFamily, onTable}
 use Rattle.fields.proofs.Said.{three}
-use Rattle.chains.specs.Chain.{contentsRefusal, capacityRefusal, stepScale, stepRefusal, ChainAccepted, TablesPass}
+use Rattle.chains.specs.Chain.{contentsRefusal, stepScale, stepRefusal, chainScale, ChainAccepted, TablesPass}
 use Rattle.chains.specs.Apply.{ChainAppliable}
 use Rattle.chains.specs.Sizes.{sizesWithin, listRefusal}
-use Rattle.chains.specs.Judge.{stepList, Refusal, plain, judgeChain, judgeList, stepEntries, entriesAt}
+use Rattle.chains.specs.Judge.{stepList, Refusal, plain, judgeChain, judgeList, stepEntries, entriesAt, StepOvershoots}
+use Rattle.chains.proofs.Chains.{told-by-entries, table-accepted}
 use Rattle.chains.proofs.SizeTests.{sizes-most}
 
 -- 1 and 17 are not 11
@@ -50,9 +47,9 @@ chain-none (s ∷ steps) c k e =
 
 -- an accepted step's table passes 8 to 11, whatever the capacity
 contents-pass : (c : ℕ) (s : Step) → stepRefusal c s ≡ 0 → contentsRefusal s ≡ 0
-unfolding stepRefusal contentsRefusal
+unfolding contentsRefusal
 contents-pass c (onFamily family p q) e = refl
-contents-pass c (onTable t) e = then-zero (tableRefusal t (length t) (tableCapacity t)) (capacityRefusal c t) e .0
+contents-pass c (onTable t) e = table-accepted c t e .1
 
 pub tables-pass : (steps : List Step) (c : ℕ) → ChainAccepted c steps → TablesPass steps
 unfolding ChainAccepted TablesPass
@@ -66,48 +63,50 @@ table-passes [] (suc i) s rest t e = absurd (omega (arith, ap length e))
 table-passes (g ∷ steps) zero s rest t e = rw (ap (λ (l : List Step). getD l 0 s) e) at (t .0)
 table-passes (g ∷ steps) (suc i) s rest t e = table-passes steps i s rest (t .1) e
 
--- 11 at a step: the list that goes with it overshoots the step's table
-step-overshoots : (c : ℕ) (s : Step) → stepRefusal c s ≡ 11 → Overshoots (stepEntries s) (stepList 11 s)
-unfolding stepRefusal contentsRefusal capacityRefusal stepEntries stepList
-step-overshoots c (onFamily family p q) e = absurd (omega (arith, e, family-refusal-most c family p q))
-step-overshoots c (onTable t) e = ⊎-elim (λ none. other (eqb (tableCapacity t) c) (rw (eq-eqb _ 0 none) at e)) (λ some. counterexample-promise t (length t) (tableCapacity t) (rw (ne-eqb (tableRefusal t (length t) (tableCapacity t)) 0 (omega arith)) at e)) (eq-zero-or-pos (tableRefusal t (length t) (tableCapacity t)))
-  where
-    other : (test : Bool) → _≡_ {A = ℕ} (cond test 0 18) 11 → Overshoots t (counterexample t)
-    other true e = absurd (omega arith)
-    other false e = absurd (omega arith)
+-- 11 at a step: its table is of the present capacity, and the list that goes with it overshoots
+step-overshoots : (c : ℕ) (s : Step) (steps : List Step) → stepRefusal c s ≡ 11 → StepOvershoots c (s ∷ steps) 1 (stepList 11 s)
+unfolding stepRefusal contentsRefusal stepEntries entriesAt stepList chainScale
+step-overshoots c (onFamily family p q) steps e = absurd (omega (arith, e, family-refusal-most c family p q))
+step-overshoots c (onTable t) steps e =
+    let told = told-by-entries c t 11 (λ e. omega arith) e in
+    record { of-present-capacity = told .0; overshoots = counterexample-promise t (length t) (tableCapacity t) (told .1) }
 
--- the step that is refused stands behind the first k
-step-behind : (steps : List Step) (c k : ℕ) → judgeChain c k steps .number ≡ 11 → suc k ≤ judgeChain c k steps .step
+behind-one : (c : ℕ) (s : Step) (steps : List Step) (place : ℕ) (list : List ℕ) → 0 < place → StepOvershoots (stepScale c s) steps place list → StepOvershoots c (s ∷ steps) (suc place) list
+unfolding entriesAt chainScale
+behind-one c s steps zero list l o = absurd (omega arith)
+behind-one c s steps (suc place) list l o =
+    let before : suc place - 1 ≡ place = omega arith in
+    let behind : suc (suc place) - 1 ≡ suc place = omega arith in
+    record { of-present-capacity = rw behind (rw before at (o .of-present-capacity)); overshoots = rw behind (rw before at (o .overshoots)) }
+
+-- 11 of a chain from c on, behind k steps
+abbrev Over : ℕ → ℕ → List Step → Refusal → Type 0
+Over c k steps r = r .number ≡ 11 → (k < r .step) × StepOvershoots c steps (r .step - k) (r .list)
+
+over-later : (c k : ℕ) (s : Step) (steps : List Step) (r : Refusal) → Over (stepScale c s) (suc k) steps r → Over c k (s ∷ steps) r
+over-later c k s steps r over eleven =
+    let later = over eleven in
+    let place : r .step - k ≡ suc (r .step - suc k) = omega (arith, later .0) in
+    (omega (arith, later .0), rw place (behind-one c s steps (r .step - suc k) (r .list) (omega (arith, later .0)) (later .1)))
+
+over-here : (c k : ℕ) (s : Step) (steps : List Step) → Over c k (s ∷ steps) (record { number = stepRefusal c s; row = 0; step = suc k; list = stepList (stepRefusal c s) s })
+over-here c k s steps eleven =
+    let first : suc k - k ≡ 1 = omega arith in
+    (omega arith, rw (eleven, first) (step-overshoots c s steps eleven))
+
+chain-overshoots : (steps : List Step) (c k : ℕ) → Over c k steps (judgeChain c k steps)
 unfolding judgeChain plain
-step-behind [] c k e = absurd (omega arith)
-step-behind (s ∷ steps) c k e =
+chain-overshoots [] c k = λ eleven. absurd (omega (arith, eleven))
+chain-overshoots (s ∷ steps) c k =
     ⊎-elim
-    (λ none. rw (eq-eqb (stepRefusal c s) 0 none) (omega (arith, step-behind steps (stepScale c s) (suc k) (rw (eq-eqb (stepRefusal c s) 0 none) at e))))
-    (λ some. rw (ne-eqb (stepRefusal c s) 0 (omega arith)) (omega arith))
+    (λ none. rw (eq-eqb (stepRefusal c s) 0 none) (over-later c k s steps (judgeChain (stepScale c s) (suc k) steps) (chain-overshoots steps (stepScale c s) (suc k))))
+    (λ some. rw (ne-eqb (stepRefusal c s) 0 (omega arith)) (over-here c k s steps))
     (eq-zero-or-pos (stepRefusal c s))
 
-chain-overshoots : (steps : List Step) (c k : ℕ) → judgeChain c k steps .number ≡ 11 → Overshoots (stepEntries (getD steps (judgeChain c k steps .step - suc k) (onTable []))) (judgeChain c k steps .list)
-unfolding judgeChain plain
-chain-overshoots [] c k e = absurd (omega arith)
-chain-overshoots (s ∷ steps) c k e = ⊎-elim (later (chain-overshoots steps (stepScale c s) (suc k))) here (eq-zero-or-pos (stepRefusal c s))
-  where
-    later : (judgeChain (stepScale c s) (suc k) steps .number ≡ 11 → Overshoots (stepEntries (getD steps (judgeChain (stepScale c s) (suc k) steps .step - suc (suc k)) (onTable []))) (judgeChain (stepScale c s) (suc k) steps .list)) → stepRefusal c s ≡ 0 → Overshoots (stepEntries (getD (s ∷ steps) (judgeChain c k (s ∷ steps) .step - suc k) (onTable []))) (judgeChain c k (s ∷ steps) .list)
-    later next none =
-        let pass = eq-eqb (stepRefusal c s) 0 none in
-        let e′ : judgeChain (stepScale c s) (suc k) steps .number ≡ 11 = rw pass at e in
-        let place : judgeChain (stepScale c s) (suc k) steps .step - suc k ≡ suc (judgeChain (stepScale c s) (suc k) steps .step - suc (suc k)) = omega (arith, step-behind steps (stepScale c s) (suc k) e′) in
-        rw (pass, place) (next e′)
-
-    here : 0 < stepRefusal c s → Overshoots (stepEntries (getD (s ∷ steps) (judgeChain c k (s ∷ steps) .step - suc k) (onTable []))) (judgeChain c k (s ∷ steps) .list)
-    here some =
-        let stop = ne-eqb (stepRefusal c s) 0 (omega arith) in
-        let eleven : stepRefusal c s ≡ 11 = rw stop at e in
-        let first : suc k - suc k ≡ 0 = omega arith in
-        rw (stop, eleven, first) (step-overshoots c s eleven)
-
-pub refused-overshoots : (steps : List Step) (c : ℕ) → judgeChain c 0 steps .number ≡ 11 → Overshoots (entriesAt steps (judgeChain c 0 steps .step)) (judgeChain c 0 steps .list)
-unfolding entriesAt
-refused-overshoots steps c e = chain-overshoots steps c 0 e
+refused-overshoots : (steps : List Step) (c : ℕ) → judgeChain c 0 steps .number ≡ 11 → StepOvershoots c steps (judgeChain c 0 steps .step) (judgeChain c 0 steps .list)
+refused-overshoots steps c e =
+    let place : judgeChain c 0 steps .step - 0 ≡ judgeChain c 0 steps .step = omega arith in
+    rw place at (chain-overshoots steps c 0 e .1)
 
 -- a list of sizes: refused by 1 or 17, or the steps decide
 module _ (least c : ℕ) (sizes : List ℕ) (S : List Step) where
@@ -142,6 +141,6 @@ module _ (least c : ℕ) (sizes : List ℕ) (S : List Step) where
   unfolding plain
   list-none = list-judged (λ r. r .number ≡ 0 → r ≡ plain 0) (λ n is some none. absurd (some none)) (λ _. chain-none S c 0)
 
-  pub list-overshoots : judgeList least c sizes S .number ≡ 11 → Overshoots (entriesAt S (judgeList least c sizes S .step)) (judgeList least c sizes S .list)
+  pub list-overshoots : judgeList least c sizes S .number ≡ 11 → StepOvershoots c S (judgeList least c sizes S .step) (judgeList least c sizes S .list)
   unfolding plain
-  list-overshoots = list-judged (λ r. r .number ≡ 11 → Overshoots (entriesAt S (r .step)) (r .list)) (λ n is some eleven. absurd (list-other least c sizes (sym is ∙ eleven))) (λ _. refused-overshoots S c)
+  list-overshoots = list-judged (λ r. r .number ≡ 11 → StepOvershoots c S (r .step) (r .list)) (λ n is some eleven. absurd (list-other least c sizes (sym is ∙ eleven))) (λ _. refused-overshoots S c)

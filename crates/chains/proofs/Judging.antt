@@ -18,9 +18,10 @@ use Rattle.fields.specs.Bytes.{word, words}
 use Rattle.fields.proofs.Decoding.{words-length, word-of}
 use Rattle.tables.proofs.Outcome.{same-refusal, list-after, answer-is}
 use Rattle.fields.specs.Parts.{onFamily, onTable}
-use Rattle.chains.specs.Chain.{stepScale, contentsRefusal, capacityRefusal, stepRefusal}
+use Rattle.chains.specs.Chain.{stepScale, contentsRefusal, stepRefusal}
 use Rattle.chains.specs.Judge.{stepList, stepAnswer, StepJudged}
 use Rattle.chains.specs.declared.StepAnswer.{StepAnswer}
+use Rattle.chains.proofs.Chains.{another-first}
 
 pub family-judged : (c family p q : ℕ) (r : FamilyAnswer) → r ≡ familyAnswer c family p q → record { number = r .number; scale = r .scale; length = 0 } ≡ stepAnswer c (onFamily family p q)
 unfolding stepAnswer stepRefusal stepScale stepList
@@ -28,10 +29,8 @@ family-judged c family p q r e =
     let is = e ∙ family-answer-is c family p q in
     ap (λ (a : FamilyAnswer). record { number = a .number; scale = a .scale; length = 0 }) is
 
-module _ (c : ℕ) (t w l : List ℕ) (room : length t ≤ length w) (list-room : tableCapacity t ≤ length l) (r : TableAnswer) (answered : r ≡ tableAnswer t (length w) (length l)) (l′ : List ℕ) (listed : l′ ≡ listAfter t w l) where
-  number-is : r .number ≡ tableRefusal t (length t) (tableCapacity t)
-  number-is = ap (λ (a : TableAnswer). a .number) (answered ∙ answer-is t (length w) (length l) _ refl) ∙ same-refusal t (length w) (length l) room list-room
-
+-- the entries of a table checked, at its own capacity
+module _ (t w l : List ℕ) (room : length t ≤ length w) (list-room : tableCapacity t ≤ length l) (r : TableAnswer) (answered : r ≡ tableAnswer t (length w) (length l)) (l′ : List ℕ) (listed : l′ ≡ listAfter t w l) where
   by-number : tableRefusal t (length w) (length l) ≡ r .number
   by-number = sym (ap (λ (a : TableAnswer). a .number) (answered ∙ answer-is t (length w) (length l) _ refl))
 
@@ -41,15 +40,15 @@ module _ (c : ℕ) (t w l : List ℕ) (room : length t ≤ length w) (list-room 
   list-is : l′ ≡ cond (eqb (r .number) 11) (counterexample t ++ drop (length (counterexample t)) l) l
   list-is = listed ∙ list-after t w l (r .number) by-number
 
-  refusal-is : (r .number ≡ 0 → ⊥) → stepRefusal c (onTable t) ≡ r .number
+  refusal-is : stepRefusal (tableCapacity t) (onTable t) ≡ r .number
   unfolding stepRefusal contentsRefusal
-  refusal-is some = rw (← number-is, ne-eqb (r .number) 0 some)
+  refusal-is = rw (eq-eqb (tableCapacity t) (tableCapacity t) refl) (sym (same-refusal t (length w) (length l) room list-room) ∙ by-number)
 
-  pub table-refused : (r .number ≡ 0 → ⊥) → StepJudged c (onTable t) l (record { number = r .number; scale = 0; length = r .length }) l′
+  pub entries-refused : (r .number ≡ 0 → ⊥) → StepJudged (tableCapacity t) (onTable t) l (record { number = r .number; scale = 0; length = r .length }) l′
   unfolding stepAnswer stepList
-  table-refused some =
+  entries-refused some =
       record {
-        answer-is = rw (refusal-is some, ne-eqb (r .number) 0 some) (ap (λ (n : ℕ). record { number = r .number; scale = 0; length = n }) (length-is ∙ counted (eqb (r .number) 11)));
+        answer-is = rw (refusal-is, ne-eqb (r .number) 0 some) (ap (λ (n : ℕ). record { number = r .number; scale = 0; length = n }) (length-is ∙ counted (eqb (r .number) 11)));
         list-is = list-is ∙ written (eqb (r .number) 11) (r .length) length-is;
       }
     where
@@ -61,20 +60,9 @@ module _ (c : ℕ) (t w l : List ℕ) (room : length t ≤ length w) (list-room 
       written true n e = rw e
       written false n e = rw e
 
-  module _ (none : r .number ≡ 0) where
-    kept : l′ ≡ l
-    kept = list-is ∙ rw none
-
-    passed : tableRefusal t (length t) (tableCapacity t) ≡ 0
-    passed = sym number-is ∙ none
-
-    pub table-of-another : (tableCapacity t ≡ c → ⊥) → StepJudged c (onTable t) l (record { number = 18; scale = 0; length = 0 }) l′
-    unfolding stepAnswer stepRefusal contentsRefusal stepScale stepList capacityRefusal
-    table-of-another other = record { answer-is = rw (passed, ne-eqb (tableCapacity t) c other); list-is = kept }
-
-    pub table-fine : tableCapacity t ≡ c → (d : ℕ) → d ≡ tableScale t → StepJudged c (onTable t) l (record { number = 0; scale = d; length = 0 }) l′
-    unfolding stepAnswer stepRefusal contentsRefusal stepScale stepList capacityRefusal
-    table-fine same d e = record { answer-is = rw (passed, eq-eqb (tableCapacity t) c same, e); list-is = kept }
+  pub entries-pass : r .number ≡ 0 → (d : ℕ) → d ≡ tableScale t → StepJudged (tableCapacity t) (onTable t) l (record { number = 0; scale = d; length = 0 }) l′
+  unfolding stepAnswer stepScale stepList
+  entries-pass none d e = record { answer-is = rw (refusal-is, none, e); list-is = list-is ∙ rw none }
 
 -- a family step leaves the list buffer
 pub family-step : (c family p q : ℕ) (list : List ℕ) (r : StepAnswer) → r ≡ stepAnswer c (onFamily family p q) → StepJudged c (onFamily family p q) list r list
@@ -94,28 +82,12 @@ module _ (n : ℕ) (bytes : List ℕ) (whole : length bytes ≡ 4 * n) where
       ∙ ap (λ (k : ℕ). getD (words bytes) (k - 1) 0) (sym (words-length n bytes whole))
       ∙ sym (scale-is-last (words bytes))
 
--- a table that passes 8 to 11, at a capacity: 18 is all that can refuse it, and it leaves the list buffer
-module _ (c : ℕ) (t : List ℕ) (passed : contentsRefusal (onTable t) ≡ 0) where
-  pub checked-of-another : (tableCapacity t ≡ c → ⊥) → record { number = 18; scale = 0; length = 0 } ≡ stepAnswer c (onTable t)
-  unfolding stepAnswer stepRefusal stepScale stepList capacityRefusal
-  checked-of-another other = rw (passed, ne-eqb (tableCapacity t) c other)
-
-  pub checked-fine : tableCapacity t ≡ c → (d : ℕ) → d ≡ tableScale t → record { number = 0; scale = d; length = 0 } ≡ stepAnswer c (onTable t)
-  unfolding stepAnswer stepRefusal stepScale stepList capacityRefusal
-  checked-fine same d e = rw (passed, eq-eqb (tableCapacity t) c same, e)
-
-  number-left : (n : ℕ) → n ≡ stepRefusal c (onTable t) → (n ≡ 11 → ⊥)
-  unfolding stepRefusal capacityRefusal
-  number-left n e eleven = go (eqb (tableCapacity t) c) (sym eleven ∙ e ∙ rw passed)
-    where
-      go : (same : Bool) → _≡_ {A = ℕ} 11 (cond same 0 18) → ⊥
-      go true e = omega (arith, e)
-      go false e = omega (arith, e)
-
-  pub checked-step : (list : List ℕ) (r : StepAnswer) → r ≡ stepAnswer c (onTable t) → StepJudged c (onTable t) list r list
+-- a table at a capacity, its entries not looked at: another capacity is told first, and entries that passed before pass
+module _ (c : ℕ) (t l : List ℕ) where
+  pub another-capacity : (tableCapacity t ≡ c → ⊥) → StepJudged c (onTable t) l (record { number = 18; scale = 0; length = 0 }) l
   unfolding stepAnswer stepList
-  checked-step list r e =
-      let other = number-left (r .number) (ap (λ (a : StepAnswer). a .number) e) in
-      let number = ap (λ (a : StepAnswer). a .number) e in
-      let none : r .length ≡ 0 = ap (λ (a : StepAnswer). a .length) e ∙ rw (← number, ne-eqb (r .number) 11 other) in
-      record { answer-is = e; list-is = rw (ne-eqb (r .number) 11 other, none) }
+  another-capacity other = record { answer-is = rw (another-first c t other); list-is = refl }
+
+  pub checked-before : tableCapacity t ≡ c → contentsRefusal (onTable t) ≡ 0 → (d : ℕ) → d ≡ tableScale t → StepJudged c (onTable t) l (record { number = 0; scale = d; length = 0 }) l
+  unfolding stepAnswer stepRefusal stepScale stepList
+  checked-before same passed d e = record { answer-is = rw (eq-eqb (tableCapacity t) c same, passed, e); list-is = refl }

@@ -21,20 +21,14 @@ unfoldable pub stepScale : ℕ → Step → ℕ
 stepScale c (onFamily family p q) = familyScale c family p q
 stepScale c (onTable t) = tableScale t
 
--- 8 to 11 depend on a table alone, 18 on its capacity
+-- 8 to 11 depend on a table's entries alone; 18, a table of another capacity, comes before them
 unfoldable pub contentsRefusal : Step → ℕ
 contentsRefusal (onFamily family p q) = 0
 contentsRefusal (onTable t) = tableRefusal t (length t) (tableCapacity t)
 
-unfoldable pub capacityRefusal : ℕ → List ℕ → ℕ
-capacityRefusal c t = cond (eqb (tableCapacity t) c) 0 18
-
 unfoldable pub stepRefusal : ℕ → Step → ℕ
 stepRefusal c (onFamily family p q) = familyRefusal c family p q
-stepRefusal c (onTable t) =
-    cond (eqb (contentsRefusal (onTable t)) 0)
-    (capacityRefusal c t)
-    (contentsRefusal (onTable t))
+stepRefusal c (onTable t) = cond (eqb (tableCapacity t) c) (contentsRefusal (onTable t)) 18
 
 -- the image of a size through a chain, and the chain's scale, document 01's E
 unfoldable pub chainImage : ℕ → List Step → ℕ → ℕ

@@ -4,11 +4,12 @@ use mathlib.Core.Path.{_≡_}
 use mathlib.Core.List.{List, [], _∷_, _++_}
 use Prim.Native.Nat.{ℕ, suc, _-_, _≤_}
 use lib.Dec.{eqb}
-use lib.ListN.{length, getD, drop}
-use Rattle.tables.specs.Table.{counterexample}
+use lib.ListN.{length, getD, take, drop}
+use Rattle.tables.specs.Table.{tableCapacity, counterexample}
 use Rattle.tables.specs.Check.{mostEntries}
+use Rattle.tables.specs.Promise.{Overshoots}
 use Rattle.fields.specs.Parts.{Step, onFamily, onTable}
-use Rattle.chains.specs.Chain.{stepScale, stepRefusal}
+use Rattle.chains.specs.Chain.{stepScale, stepRefusal, chainScale}
 use Rattle.chains.specs.Sizes.{listRefusal}
 use Rattle.chains.specs.declared.StepAnswer.{StepAnswer}
 use Rattle.chains.specs.declared.Verdict.{Verdict}
@@ -65,6 +66,11 @@ stepEntries (onTable t) = t
 
 unfoldable pub entriesAt : List Step → ℕ → List ℕ
 entriesAt steps place = stepEntries (getD steps (place - 1) (onTable []))
+
+-- 11 at a place of a chain from c on: the table is of the capacity that this step gets, and the list overshoots it
+pub record StepOvershoots (c : ℕ) (steps : List Step) (place : ℕ) (list : List ℕ) : Type 0 where
+  pub of-present-capacity : tableCapacity (entriesAt steps place) ≡ chainScale c (take (place - 1) steps)
+  pub overshoots : Overshoots (entriesAt steps place) list
 
 -- the verdict that a refusal is, and the list buffer with its list
 unfoldable pub verdictOf : Refusal → Verdict

@@ -6,6 +6,7 @@ ghost use mathlib.Core.Path.{_≡_};
 ghost use mathlib.Core.Bool.{true};
 ghost use Prim.Native.Nat.{_*_, _≤_};
 ghost use lib.ListN.{length};
+ghost use Rattle.tables.specs.Table.{tableCapacity};
 ghost use Rattle.tables.specs.Check.{mostEntries};
 ghost use Rattle.fields.specs.Bytes.{words};
 ghost use Rattle.fields.specs.Parts.{onFamily, onTable};
@@ -43,17 +44,26 @@ fn refused_step(number: u64, length: u64) -> StepAnswer
     }
 }
 
-// A table's entries are decoded into `table`, checked, and held against the present capacity.
-fn judge_table_in(
+fn passed_step(scale: u64) -> StepAnswer
+    ensures { λ r. ⌜ r ≡ record { number = 0; scale = scale; length = 0 } ⌝ }
+{
+    StepAnswer {
+        number: 0,
+        scale,
+        length: 0,
+    }
+}
+
+// Entries are decoded into `table` and checked: the step judged at its table's own capacity.
+fn judge_entries_in(
     bytes: &[u8],
     table: &mut [u32],
-    capacity: u64,
     working: &mut [u64],
     list: &mut [u32],
 ) -> StepAnswer
     requires { ⌜ (length (now bytes) ≡ 4 * length (now table)) × (2 ≤ length (now table))
         × (length (now table) ≤ mostEntries) × CheckRoom (now working) (now list) ⌝ }
-    ensures { λ r. ⌜ StepJudged capacity (onTable (words (now (bytes .entry))))
+    ensures { λ r. ⌜ StepJudged (tableCapacity (words (now (bytes .entry)))) (onTable (words (now (bytes .entry))))
         (now (list .entry)) r (now (list .exit)) ⌝ }
 {
     fields::words::decode_words(bytes, table);
@@ -63,55 +73,57 @@ fn judge_table_in(
     if number != 0 {
         return refused_step(number, checked.length);
     }
-    if last as u64 != capacity {
-        return refused_step(18, 0);
-    }
-    StepAnswer {
-        number: 0,
-        scale: table[last] as u64,
-        length: 0,
-    }
+    passed_step(table[last] as u64)
 }
 
-fn judge_table_step(
+fn judge_entries(
     job: &[u8],
     span: fields::Span,
-    capacity: u64,
     working: &mut [u64],
     list: &mut [u32],
 ) -> StepAnswer
     requires { ⌜ SpanWithin (now job) span × (2 ≤ span .n) × (span .n ≤ mostEntries)
         × CheckRoom (now working) (now list) ⌝ }
-    ensures { λ r. ⌜ StepJudged capacity (onTable (words (spanBytes (now (job .entry)) span)))
+    ensures { λ r. ⌜ StepJudged (tableCapacity (words (spanBytes (now (job .entry)) span)))
+        (onTable (words (spanBytes (now (job .entry)) span)))
         (now (list .entry)) r (now (list .exit)) ⌝ }
 {
     let n = span.n;
     let mut table = [0u32; tables::MOST_ENTRIES];
-    judge_table_in(
+    judge_entries_in(
         fields::span_bytes(job, span),
         &mut table[..n],
-        capacity,
         working,
         list,
     )
 }
 
-// A table whose entries were checked before: only its capacity is left to ask, and its last entry is
-// read where it lies.
-fn judge_checked_table(job: &[u8], span: fields::Span, capacity: u64) -> StepAnswer
-    requires { ⌜ SpanWithin (now job) span × (2 ≤ span .n)
-        × (contentsRefusal (onTable (words (spanBytes (now job) span))) ≡ 0) ⌝ }
-    ensures { λ r. ⌜ r ≡ stepAnswer capacity (onTable (words (spanBytes (now (job .entry)) span))) ⌝ }
+// A table step at a capacity: 18 is told by the table's length, before anything of it is read or
+// written. Where `checked`, its entries are known to pass 8 to 11, and only the last one is read.
+fn judge_table_step(
+    job: &[u8],
+    span: fields::Span,
+    capacity: u64,
+    checked: bool,
+    working: &mut [u64],
+    list: &mut [u32],
+) -> StepAnswer
+    requires { ⌜ SpanWithin (now job) span × (2 ≤ span .n) × (span .n ≤ mostEntries)
+        × CheckRoom (now working) (now list)
+        × (checked ≡ true → contentsRefusal (onTable (words (spanBytes (now job) span))) ≡ 0) ⌝ }
+    ensures judged { λ r. ⌜ StepJudged capacity (onTable (words (spanBytes (now (job .entry)) span)))
+        (now (list .entry)) r (now (list .exit)) ⌝ }
+    ensures untouched { λ _. ⌜ ((tableCapacity (words (spanBytes (now (job .entry)) span)) ≡ capacity → ⊥)
+        → now (working .exit) ≡ now (working .entry)) ⌝ }
 {
     let top = span.n - 1;
-    if top as u64 == capacity {
-        return StepAnswer {
-            number: 0,
-            scale: fields::words::word_at(fields::span_bytes(job, span), 4 * top),
-            length: 0,
-        };
+    if top as u64 != capacity {
+        return refused_step(18, 0);
     }
-    refused_step(18, 0)
+    if checked {
+        return passed_step(fields::words::word_at(fields::span_bytes(job, span), 4 * top));
+    }
+    judge_entries(job, span, working, list)
 }
 
 // A step at a capacity. Where `checked`, its table is known to pass 8 to 11.
@@ -130,10 +142,7 @@ fn judge_step(
     if s.tag == 4 {
         return judge_family_step(s, capacity);
     }
-    if checked {
-        return judge_checked_table(job, s.table, capacity);
-    }
-    judge_table_step(job, s.table, capacity, working, list)
+    judge_table_step(job, s.table, capacity, checked, working, list)
 }
 
 // A refusal outside of rows and steps; number 0 is none.

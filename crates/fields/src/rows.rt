@@ -7,7 +7,7 @@ use crate::words;
 ghost use mathlib.Core.Path.{_≡_};
 ghost use mathlib.Core.Bool.{true};
 ghost use Prim.Native.Nat.{_+_};
-ghost use lib.ListN.{length, drop};
+ghost use lib.ListN.{drop};
 ghost use Rattle.fields.specs.Bytes.{headerBytes, fieldLength, fieldWithin};
 ghost use Rattle.fields.specs.Record.{RowHere, RowRead, RowAhead, RowsFound};
 

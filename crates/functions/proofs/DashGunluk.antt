@@ -3,7 +3,7 @@
 use mathlib.Core.Path.{_≡_, ap, sym, _∙_, refl}
 use mathlib.Core.Logic.{_⊎_, inl, inr, ⊎-elim}
 use Prim.Native.Nat.{ℕ, _+_, _-_, _*_, _/_, _%_, _≤_, _<_}
-use native.Mathlib.Nat.{mul-le-mul-right, mul-le-mul-left, mul-le-mul, le-of-mul-le-mul-right, mul-mod-left, div-add-mod', eq-zero-or-pos, eq-or-lt-of-le}
+use native.Mathlib.Nat.{mul-le-mul-right, mul-le-mul-left, le-of-mul-le-mul-right, mul-mod-left, div-add-mod', eq-zero-or-pos, eq-or-lt-of-le}
 use native.Mathlib.Omega.{arith}
 use borrow.Author.Tests.{le-leb, lt-leb, eq-eqb, ne-eqb}
 use Rattle.functions.specs.Families.{dashGunluk, dashGunlukRest, theta, _up_}

@@ -1,5 +1,5 @@
 -- Families 1 to 4, or what they mirror, are superadditive.
-use mathlib.Core.Path.{_≡_, ap, sym, _∙_, refl}
+use mathlib.Core.Path.{_≡_, ap, _∙_, refl}
 use mathlib.Core.Logic.{_⊎_, inl, inr, ⊎-elim}
 use Prim.Native.Nat.{ℕ, _+_, _-_, _*_, _/_, _%_, _≤_, _<_, min}
 use native.Mathlib.Nat.{div-add-mod', eq-zero-or-pos, zero-div, zero-mod, mul-le-mul}

@@ -1,5 +1,5 @@
 -- Theorem 1 of the survey: the mirror of a superadditive function is superadditive.
-use mathlib.Core.Path.{_≡_, ap, sym, _∙_, refl}
+use mathlib.Core.Path.{_≡_, ap}
 use mathlib.Core.Logic.{_⊎_, inl, inr, ⊎-elim}
 use Prim.Native.Nat.{ℕ, _+_, _-_, _*_, _≤_, _<_}
 use native.Mathlib.Nat.{eq-zero-or-pos}

@@ -1,8 +1,8 @@
 -- Families 5 and 6, or what family 6 mirrors, are superadditive: Lemma 1 at what they add for a remainder.
-use mathlib.Core.Path.{_≡_, ap, sym, _∙_, refl}
-use mathlib.Core.Logic.{_⊎_, inl, inr, ⊎-elim}
+use mathlib.Core.Path.{_≡_, ap, _∙_}
+use mathlib.Core.Logic.{_⊎_, ⊎-elim}
 use Prim.Native.Nat.{ℕ, _+_, _-_, _*_, _/_, _%_, _≤_, _<_}
-use native.Mathlib.Nat.{mul-le-mul-left, mul-le-mul-right, mod-lt, div-le-self, le-refl}
+use native.Mathlib.Nat.{mul-le-mul-right, mod-lt, div-le-self, le-refl}
 use native.Mathlib.Omega.{arith}
 use borrow.Author.Tests.{lt-ltb, le-ltb}
 use Rattle.functions.specs.Words.{limit}
@@ -10,7 +10,7 @@ use Rattle.functions.specs.Families.{burdettJohnson, letchfordLodi, thet
 use Rattle.functions.proofs.Bounds.{product-most}
 use Rattle.functions.proofs.Cases.{lt-or-ge}
 use Rattle.functions.proofs.Superadditive.{Superadditive}
-use Rattle.functions.proofs.Quotient.{by-quotient-and-remainder, up-reaches, up-below, up-least, up-greatest, up-monotone, up-zero, up-sum, up-whole}
+use Rattle.functions.proofs.Quotient.{by-quotient-and-remainder, up-least, up-monotone, up-zero, up-sum, up-whole}
 
 module _ (p r : ℕ) where
   -- a difference of natural numbers is 0 where a is at most r

@@ -12,7 +12,6 @@ use lib.ListN.{length, length-map, getD, take, drop}
 use lib.Seq.{take-at}
 use Rattle.functions.proofs.Cases.{not-refused, neither}
 use Rattle.tables.specs.Check.{mostEntries}
-use Rattle.tables.specs.Promise.{Overshoots}
 use Rattle.fields.specs.Parts.{Field, Step, Row, jobKind, jobCapacity, jobSizes, jobSteps, jobRows, coefficientCount}
 use Rattle.fields.specs.Grammar.{mostBytes, mostSizes, mostRows, rowsKind}
 use Rattle.fields.specs.Reading.{refused, fieldsOf}
@@ -22,9 +21,9 @@ use Rattle.chains.specs.Chain.{chainImage, chainScale}
 use Rattle.chains.specs.Apply.{ChainAppliable}
 use Rattle.jobs.specs.Kinds.{isKind, leastOf, rowsFit}
 use Rattle.jobs.specs.Packing.{ChainPromise}
-use Rattle.chains.specs.Judge.{Refusal, plain, entriesAt, verdictOf, listBy, CheckRoom}
+use Rattle.chains.specs.Judge.{Refusal, plain, StepOvershoots, verdictOf, listBy, CheckRoom}
 use Rattle.jobs.specs.JudgeRows.{judgeRow, judgeRows}
-use Rattle.jobs.specs.Job.{judgeFields, judgeReading, fieldsIn, Places, placesOf, bufferRefusal, judgeJob, rowImages, rowScale, jobImages, jobCount, jobScales, acceptedAnswer, refusedAnswer, answerBy, imagesBy, scalesBy, Finished, Answered, jobAnswer, imagesAfter, listAfterJob, scalesAfter, CutHolds, RowHolds, JobSafe}
+use Rattle.jobs.specs.Job.{judgeFields, judgeReading, fieldsIn, Places, placesOf, bufferRefusal, judgeJob, rowImages, rowScale, jobImages, jobCount, jobScales, acceptedAnswer, refusedAnswer, answerBy, imagesBy, scalesBy, Finished, Answered, jobAnswer, imagesAfter, listAfterJob, scalesAfter, startCapacity, CutHolds, RowHolds, JobSafe}
 use Rattle.jobs.specs.declared.JobAnswer.{JobAnswer}
 use Rattle.chains.specs.declared.Verdict.{Verdict}
 use Rattle.jobs.proofs.Packings.{chain-is-safe}
@@ -81,26 +80,26 @@ unfolding answerBy acceptedAnswer refusedAnswer
 number-by r fields = ⊎-elim (λ none. rw (eq-eqb (r .number) 0 none) (sym none)) (λ some. rw (ne-eqb (r .number) 0 (omega arith))) (eq-zero-or-pos (r .number))
 
 -- 11 of the fields is 11 of a step, whose list overshoots
-fields-overshoot : (fields : List Field) → judgeFields fields .number ≡ 11 → Overshoots (entriesAt (jobSteps fields) (judgeFields fields .step)) (judgeFields fields .list)
-unfolding plain
-fields-overshoot fields e = go (eqb (jobKind fields) rowsKind) refl
+fields-overshoot : (fields : List Field) → judgeFields fields .number ≡ 11 → StepOvershoots (startCapacity fields (judgeFields fields .row)) (jobSteps fields) (judgeFields fields .step) (judgeFields fields .list)
+unfolding plain startCapacity
+fields-overshoot fields = go (eqb (jobKind fields) rowsKind) refl
   where
     Over : Refusal → Type 0
-    Over r = r .number ≡ 11 → Overshoots (entriesAt (jobSteps fields) (r .step)) (r .list)
+    Over r = r .number ≡ 11 → StepOvershoots (startCapacity fields (r .row)) (jobSteps fields) (r .step) (r .list)
 
-    rows : (test : Bool) → Over (cond (not test) (plain 21) (judgeRows 0 (jobSteps fields) (jobRows fields)))
-    rows true eleven = rows-overshoot (jobSteps fields) (jobRows fields) 0 eleven
-    rows false eleven = absurd (omega (arith, eleven))
+    rows : eqb (jobKind fields) rowsKind ≡ true → (test : Bool) → Over (cond (not test) (plain 21) (judgeRows 0 (jobSteps fields) (jobRows fields)))
+    rows kind true eleven = rw kind (rows-overshoot (jobSteps fields) (jobRows fields) 0 eleven .1)
+    rows kind false eleven = absurd (omega (arith, eleven))
 
-    list : (jobKind fields ≡ rowsKind → ⊥) → (test : Bool) → isKind (jobKind fields) ≡ test → Over (judgeFields fields)
-    list other true is = rw (list-kind fields other is) (list-overshoots (leastOf (jobKind fields)) (jobCapacity fields) (jobSizes fields) (jobSteps fields))
+    list : eqb (jobKind fields) rowsKind ≡ false → (test : Bool) → isKind (jobKind fields) ≡ test → Over (judgeFields fields)
+    list other true is =
+        rw (list-kind fields (eqb-false (jobKind fields) rowsKind other) is, other)
+        (list-overshoots (leastOf (jobKind fields)) (jobCapacity fields) (jobSizes fields) (jobSteps fields))
     list other false is = rw (kind-refused fields is) (λ eleven. absurd (omega (arith, eleven)))
 
-    go : (test : Bool) → eqb (jobKind fields) rowsKind ≡ test → Overshoots (entriesAt (jobSteps fields) (judgeFields fields .step)) (judgeFields fields .list)
-    go true is =
-        let judged = rows-kind fields (eqb-true (jobKind fields) rowsKind is) in
-        rw judged (rows (rowsFit (length (jobRows fields)) (coefficientCount (jobRows fields))) (sym (ap (λ (r : Refusal). r .number) judged) ∙ e))
-    go false is = list (eqb-false (jobKind fields) rowsKind is) (isKind (jobKind fields)) refl e
+    go : (test : Bool) → eqb (jobKind fields) rowsKind ≡ test → Over (judgeFields fields)
+    go true is = rw (rows-kind fields (eqb-true (jobKind fields) rowsKind is)) (rows is (rowsFit (length (jobRows fields)) (coefficientCount (jobRows fields))))
+    go false is = list is (isKind (jobKind fields)) refl
 
 -- P4, from P3
 promised : (c : ℕ) (S : List Step) (sizes : List ℕ) → ChainAppliable c S sizes → ChainPromise c S
@@ -152,7 +151,7 @@ Outcome job images working list scales answer images′ w′ list′ scales′ =
     × ((list′ ≡ listAfterJob job (placesOf images working list scales) list)
     × ((scales′ ≡ scalesAfter job (placesOf images working list scales) scales)
     × ((w′ ≡ length working)
-    × ((answer .number ≡ 11 → Overshoots (entriesAt (jobSteps (fieldsIn job)) (answer .step)) (take (answer .length) list′))
+    × ((answer .number ≡ 11 → StepOvershoots (startCapacity (fieldsIn job) (answer .row)) (jobSteps (fieldsIn job)) (answer .step) (take (answer .length) list′))
     × (answer .number ≡ 0 → JobSafe job answer images′ scales′))))))
 
 module _ (job images working list scales : List ℕ) (answer : JobAnswer) (w′ : ℕ) (as-long : w′ ≡ length working) where
@@ -171,7 +170,7 @@ module _ (job images working list scales : List ℕ) (answer : JobAnswer) (w′ 
     answer-number : answer .number ≡ r .number
     answer-number = ap (λ (b : JobAnswer). b .number) (a .answer-is) ∙ number-by r (fieldsIn job)
 
-    over : answer .number ≡ 11 → Overshoots (entriesAt (jobSteps (fieldsIn job)) (answer .step)) (take (answer .length) list′)
+    over : answer .number ≡ 11 → StepOvershoots (startCapacity (fieldsIn job) (answer .row)) (jobSteps (fieldsIn job)) (answer .step) (take (answer .length) list′)
     unfolding answerBy refusedAnswer listBy
     over eleven =
         let number = sym answer-number ∙ eleven in

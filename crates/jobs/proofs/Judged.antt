@@ -3,7 +3,7 @@ use mathlib.Core.Path.{_≡_, refl, ap, sym, _∙_}
 use mathlib.Core.Bool.{Bool, true, false, cond, not, _&&_, and-eq-true-iff}
 use mathlib.Core.List.{List, [], _∷_}
 use mathlib.Core.Logic.{⊎-elim}
-use Prim.Native.Nat.{ℕ, zero, suc, _+_, _≤_, _<_}
+use Prim.Native.Nat.{ℕ, zero, suc, _+_, _-_, _≤_, _<_}
 use native.Mathlib.Nat.{eq-zero-or-pos}
 use native.Mathlib.Numerals.{add-one}
 use native.Mathlib.Omega.{arith}
@@ -11,7 +11,6 @@ use borrow.Author.Tests.{eq-eqb, ne-eqb, leb-true}
 use lib.Dec.{leb}
 use lib.ListN.{length, getD, drop, drop-of-length-le}
 use lib.Seq.{drop-cons}
-use Rattle.tables.specs.Promise.{Overshoots}
 use Rattle.fields.specs.Bytes.{words}
 use Rattle.fields.specs.Parts.{Field, Step, Row, jobKind, jobCapacity, jobSizes, jobSteps, jobRows, coefficientCount}
 use Rattle.fields.specs.Grammar.{mostSizes, mostRows, rowsKind}
@@ -19,7 +18,7 @@ use Rattle.fields.specs.Record.{spanBytes, noRow, rowIn}
 use Rattle.fields.specs.declared.RowPlace.{RowPlace}
 use Rattle.chains.specs.Chain.{TablesPass}
 use Rattle.chains.specs.Apply.{ChainAppliable}
-use Rattle.chains.specs.Judge.{Refusal, plain, judgeList, entriesAt, verdictOf, listBy, Judged}
+use Rattle.chains.specs.Judge.{Refusal, plain, judgeList, StepOvershoots, verdictOf, listBy, Judged}
 use Rattle.chains.specs.declared.Verdict.{Verdict}
 use Rattle.chains.proofs.Judged.{tables-pass, list-appliable, list-none, list-overshoots}
 use Rattle.jobs.specs.Kinds.{isKind, leastOf, rowsFit}
@@ -65,13 +64,29 @@ module _ (S : List Step) where
       go none next zero l = none
       go none next (suc j) l = next j (omega arith)
 
-  pub rows-overshoot : (rows : List Row) (k : ℕ) → judgeRows k S rows .number ≡ 11 → Overshoots (entriesAt S (judgeRows k S rows .step)) (judgeRows k S rows .list)
-  unfolding judgeRows plain inRow judgeRow
-  rows-overshoot [] k e = absurd (omega arith)
-  rows-overshoot (r ∷ rows) k e =
+  -- 11 of rows behind k others
+  abbrev Over : ℕ → List Row → Refusal → Type 0
+  Over k rows f = f .number ≡ 11 → (k < f .row) × StepOvershoots (getD rows (f .row - suc k) noRow .right-side) S (f .step) (f .list)
+
+  over-later : (k : ℕ) (r : Row) (rows : List Row) (f : Refusal) → Over (suc k) rows f → Over k (r ∷ rows) f
+  over-later k r rows f over eleven =
+      let later = over eleven in
+      let place : f .row - suc k ≡ suc (f .row - suc (suc k)) = omega (arith, later .0) in
+      (omega (arith, later .0), rw place (later .1))
+
+  over-here : (k : ℕ) (r : Row) (rows : List Row) → Over k (r ∷ rows) (inRow (suc k) (judgeRow S r))
+  unfolding inRow judgeRow
+  over-here k r rows eleven =
+      let first : suc k - suc k ≡ 0 = omega arith in
+      (omega arith, rw first (list-overshoots 0 (r .right-side) (r .coefficients) S eleven))
+
+  pub rows-overshoot : (rows : List Row) (k : ℕ) → Over k rows (judgeRows k S rows)
+  unfolding judgeRows plain
+  rows-overshoot [] k = λ eleven. absurd (omega (arith, eleven))
+  rows-overshoot (r ∷ rows) k =
       ⊎-elim
-      (λ none. rw (eq-eqb (judgeRow S r .number) 0 none) (rows-overshoot rows (suc k) (rw (eq-eqb (judgeRow S r .number) 0 none) at e)))
-      (λ some. rw (ne-eqb (judgeRow S r .number) 0 (omega arith)) (list-overshoots 0 (r .right-side) (r .coefficients) S (rw (ne-eqb (judgeRow S r .number) 0 (omega arith)) at e)))
+      (λ none. rw (row-passes k r rows none) (over-later k r rows (judgeRows (suc k) S rows) (rows-overshoot rows (suc k))))
+      (λ some. rw (row-stops k r rows (omega arith)) (over-here k r rows))
       (eq-zero-or-pos (judgeRow S r .number))
 
 module _ (k : ℕ) (r : Refusal) (list : List ℕ) (v : Verdict) (list′ : List ℕ) (j : Judged (inRow k r) list v list′) where

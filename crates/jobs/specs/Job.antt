@@ -135,6 +135,10 @@ listAfterJob job lent list = listBy (judgeJob job lent) list
 unfoldable pub scalesAfter : List ℕ → Places → List ℕ → List ℕ
 scalesAfter job lent scales = scalesBy (judgeJob job lent) (fieldsIn job) scales
 
+-- the capacity that a job's chain starts from: in rows the right side of the one at a place, counted from 1
+unfoldable pub startCapacity : List Field → ℕ → ℕ
+startCapacity fields row = cond (eqb (jobKind fields) rowsKind) (getD (jobRows fields) (row - 1) noRow .right-side) (jobCapacity fields)
+
 -- the cut of a row, its images from the start of `images` on, holds for all counts that satisfy the row
 unfoldable pub CutHolds : ℕ → List ℕ → List ℕ → ℕ → Type 0
 CutHolds c row images scale = (counts : List ℕ) → length counts ≡ length row → weighted counts row ≤ c → weighted counts (take (length row) images) ≤ scale

@@ -5,10 +5,18 @@ mod rows;
 
 ghost use mathlib.Core.Path.{_≡_};
 ghost use lib.ListN.{length, take};
-ghost use Rattle.tables.specs.Promise.{Overshoots};
 ghost use Rattle.fields.specs.Parts.{jobSteps};
-ghost use Rattle.jobs.specs.Job.{fieldsIn, placesOf, jobAnswer, imagesAfter, listAfterJob, scalesAfter, JobSafe};
-ghost use Rattle.chains.specs.Judge.{entriesAt};
+ghost use Rattle.chains.specs.Judge.{StepOvershoots};
+ghost use Rattle.jobs.specs.Job.{
+  fieldsIn,
+  placesOf,
+  jobAnswer,
+  imagesAfter,
+  listAfterJob,
+  scalesAfter,
+  startCapacity,
+  JobSafe,
+};
 
 // The least places of a list buffer: a counterexample has at most as many sizes as its table's capacity.
 pub const LIST_PLACES: usize = tables::MOST_ENTRIES - 1;
@@ -52,8 +60,8 @@ pub extern "C" fn windowfloor_job(
         (now (scales .entry)) ⌝ }
     ensures working { λ _. ⌜ length (now (working .exit)) ≡ length (now (working .entry)) ⌝ }
     ensures overshoots { λ r. ⌜ (r .number ≡ 11 →
-        Overshoots (entriesAt (jobSteps (fieldsIn (now (job .entry)))) (r .step))
-        (take (r .length) (now (list .exit)))) ⌝ }
+        StepOvershoots (startCapacity (fieldsIn (now (job .entry))) (r .row))
+        (jobSteps (fieldsIn (now (job .entry)))) (r .step) (take (r .length) (now (list .exit)))) ⌝ }
     ensures safe { λ r. ⌜ (r .number ≡ 0 →
         JobSafe (now (job .entry)) r (now (images .exit)) (now (scales .exit))) ⌝ }
 {

@@ -1,7 +1,7 @@
 -- `apply_step` meets its contract: a family or a table, by the tag.
 use mathlib.Core.Path.{sym, _∙_}
 use Rattle.fields.proofs.Filling.{span-length, family-in, table-in}
-use Rattle.chains.proofs.Chains.{table-capacity}
+use Rattle.chains.proofs.Chains.{table-accepted}
 use Rattle.chains.proofs.Judging.{capacity-of}
 use Rattle.chains.proofs.Applying.{table-applied}
 use borrow.Author.Needs.{needs}
@@ -22,7 +22,7 @@ apply-table-requires c κs =
     let s = c .before .before .before .before .before in
     let other = c .before .if1 .left in
     let table = rw (table-in (s .args .job .now) (s .args .s) other) at (s .pre .1) in
-    let capacity = sym (capacity-of _ _ (span-length _ _ (s .pre .0 .within))) ∙ table-capacity _ _ (table .accepted) in
+    let capacity = sym (capacity-of _ _ (span-length _ _ (s .pre .0 .within))) ∙ table-accepted _ _ (table .accepted) .0 in
     (s .pre .0 .within, s .pre .0 .least other, rw capacity (table .within))
 
 same-length-2 : tie.Need-same-length-2

@@ -2,7 +2,7 @@ use Prim.Native.Nat.{_≤_}
 use Rattle.fields.proofs.Following.{table-tag}
 -- `with_field` meets its contract: in each arm the tag is known, and one part changes.
 use native.Mathlib.Omega.{arith}
-use Rattle.fields.proofs.Filling.{kind-length, capacity-length, family-length, row-length, with-kind, with-capacity, with-sizes, with-row, with-step, family-same, family-within, table-same, table-within, table-step}
+use Rattle.fields.proofs.Filling.{kind-length, capacity-length, family-length, row-length, with-kind, with-capacity, with-sizes, with-row, with-step, family-same, family-within, table-same, table-within}
 use borrow.Author.Needs.{needs}
 use Rattle.fields.proofs.parts.with_field.Statement.{statement}
 use Rattle.fields.proofs.parts.with_field.Tie as tie

@@ -1,10 +1,7 @@
 -- `mirrored_letchford_lodi` meets its contract: `mirrored` at `letchford_lodi`.
 use mathlib.Core.Path.{sym, ap, _∙_}
-use Prim.Native.Nat.{_+_, _*_, _/_}
-use native.Mathlib.Nat.{div-le-self}
 use native.Mathlib.Omega.{arith}
 use Rattle.functions.specs.Families.{letchfordLodi}
-use Rattle.functions.proofs.Bounds.{product-most}
 use Rattle.functions.proofs.Superadditive.{monotone}
 use Rattle.functions.proofs.Remainder.{letchfordLodi-superadditive, letchfordLodi-most}
 use borrow.Author.Needs.{needs}

@@ -1,5 +1,5 @@
 -- `mirrored_quotient` meets its contract: `mirrored` at the quotient by p.
-use mathlib.Core.Path.{refl, sym, ap}
+use mathlib.Core.Path.{sym, ap}
 use native.Mathlib.Nat.{div-le-self}
 use native.Mathlib.Omega.{arith}
 use Rattle.functions.specs.Families.{quotient}

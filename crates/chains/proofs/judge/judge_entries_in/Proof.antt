@@ -1,5 +1,5 @@
--- `judge_table_in` meets its contract: the table check of the decoded entries, then the capacity.
-use mathlib.Core.Path.{_≡_, sym, _∙_}
+-- `judge_entries_in` meets its contract: the table check of the decoded entries.
+use mathlib.Core.Path.{_≡_, sym}
 use Prim.Native.Nat.{_-_, _≤_}
 use native.Mathlib.Omega.{arith}
 use borrow.Author.Needs.{needs}
@@ -7,9 +7,9 @@ use lib.ListN.{length}
 use Rattle.tables.specs.Table.{tableCapacity}
 use Rattle.tables.proofs.Entries.{capacity-is, scale-is-last}
 use Rattle.fields.specs.Bytes.{words}
-use Rattle.chains.proofs.Judging.{table-refused, table-of-another, table-fine}
-use Rattle.chains.proofs.judge.judge_table_in.Statement.{statement}
-use Rattle.chains.proofs.judge.judge_table_in.Tie as tie
+use Rattle.chains.proofs.Judging.{entries-refused, entries-pass}
+use Rattle.chains.proofs.judge.judge_entries_in.Statement.{statement}
+use Rattle.chains.proofs.judge.judge_entries_in.Tie as tie
 
 decode-words-requires : tie.Need-decode-words-requires
 decode-words-requires c κs = search needs
@@ -48,10 +48,21 @@ returns : tie.Need-returns
 returns c =
     let d = c .before .before .before .before .before .before in
     let e = d .windowfloor-table-check .ensures in
-    rw (c .refused-step .ensures, ← (entries d)) (table-refused _ _ _ _ (room d) (list-room d) _ (e .0) _ (e .1 .1 .0) (c .before .if1 .taken))
+    rw (c .refused-step .ensures, ← (entries d)) (entries-refused _ _ _ (room d) (list-room d) _ (e .0) _ (e .1 .1 .0) (c .before .if1 .taken))
 
-refused-step-requires-2 : tie.Need-refused-step-requires-2
-refused-step-requires-2 c κs = search needs
+mul-passed-step : tie.Need-mul-passed-step
+mul-passed-step c = search needs
+
+slice-read-passed-step : tie.Need-slice-read-passed-step
+slice-read-passed-step c = search needs
+
+cast-passed-step : tie.Need-cast-passed-step
+cast-passed-step c =
+    let t = c .before .before .before .before .before .before .before .before .before .before .before .before .decode-words .last .1 .0 in
+    omega (arith, c .slice-known7 .given (length t - 1))
+
+passed-step-requires : tie.Need-passed-step-requires
+passed-step-requires c κs = search needs
 
 same-length-4 : tie.Need-same-length-4
 same-length-4 c = search needs
@@ -66,37 +77,11 @@ returns-2 : tie.Need-returns-2
 returns-2 c =
     let d = c .before .before .before .before .before .before .before in
     let e = d .windowfloor-table-check .ensures in
-    rw (c .refused-step2 .ensures, ← (entries d)) (table-of-another _ _ _ _ (room d) (list-room d) _ (e .0) _ (e .1 .1 .0) (c .before .before .if1 .left) (λ same. omega (arith, same, capacity-is (d .before .before .before .before .before .before .decode-words .last .1 .0), c .before .if2 .taken)))
-
-mul-t12 : tie.Need-mul-t12
-mul-t12 c = search needs
-
-slice-read-t22 : tie.Need-slice-read-t22
-slice-read-t22 c = search needs
-
-cast-t20 : tie.Need-cast-t20
-cast-t20 c =
-    let t = c .before .before .before .before .before .before .before .before .before .before .before .before .before .decode-words .last .1 .0 in
-    omega (arith, c .slice-known7 .given (length t - 1))
-
-same-length-7 : tie.Need-same-length-7
-same-length-7 c = search needs
-
-same-length-8 : tie.Need-same-length-8
-same-length-8 c = search needs
-
-same-length-9 : tie.Need-same-length-9
-same-length-9 c = search needs
-
-returns-3 : tie.Need-returns-3
-returns-3 c =
-    let d = c .before .before .before .before .before .before .before in
-    let e = d .windowfloor-table-check .ensures in
     let t = d .before .before .before .before .before .before .decode-words .last .1 .0 in
-    rw (← (entries d)) (table-fine _ _ _ _ (room d) (list-room d) _ (e .0) _ (e .1 .1 .0) (c .before .before .if1 .left) (capacity-is _ ∙ c .before .if2 .left) _ (sym (scale-is-last t)))
+    rw (c .passed-step .ensures, ← (entries d)) (entries-pass _ _ _ (room d) (list-room d) _ (e .0) _ (e .1 .1 .0) (c .before .before .if1 .left) _ (sym (scale-is-last t)))
 
-pub judge-table-in-spec : {M : Type 1} → statement M
-judge-table-in-spec =
+pub judge-entries-in-spec : {M : Type 1} → statement M
+judge-entries-in-spec =
     tie.close
     (tie.spec
     decode-words-requires
@@ -107,15 +92,11 @@ judge-table-in-spec =
     same-length-2
     same-length-3
     returns
-    refused-step-requires-2
+    mul-passed-step
+    slice-read-passed-step
+    cast-passed-step
+    passed-step-requires
     same-length-4
     same-length-5
     same-length-6
-    returns-2
-    mul-t12
-    slice-read-t22
-    cast-t20
-    same-length-7
-    same-length-8
-    same-length-9
-    returns-3)
+    returns-2)
