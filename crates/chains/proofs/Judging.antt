@@ -29,6 +29,16 @@ family-judged c family p q r e =
     let is = e ∙ family-answer-is c family p q in
     ap (λ (a : FamilyAnswer). record { number = a .number; scale = a .scale; length = 0 }) is
 
+-- a table at a capacity, its entries not looked at: another capacity is told first, and entries that passed before pass
+module _ (c : ℕ) (t l : List ℕ) where
+  pub another-capacity : (tableCapacity t ≡ c → ⊥) → StepJudged c (onTable t) l (record { number = 18; scale = 0; length = 0 }) l
+  unfolding stepAnswer stepList
+  another-capacity other = record { answer-is = rw (another-first c t other); list-is = refl }
+
+  pub checked-before : tableCapacity t ≡ c → contentsRefusal (onTable t) ≡ 0 → (d : ℕ) → d ≡ tableScale t → StepJudged c (onTable t) l (record { number = 0; scale = d; length = 0 }) l
+  unfolding stepAnswer stepRefusal stepScale stepList
+  checked-before same passed d e = record { answer-is = rw (eq-eqb (tableCapacity t) c same, passed, e); list-is = refl }
+
 -- the entries of a table checked, at its own capacity
 module _ (t w l : List ℕ) (room : length t ≤ length w) (list-room : tableCapacity t ≤ length l) (r : TableAnswer) (answered : r ≡ tableAnswer t (length w) (length l)) (l′ : List ℕ) (listed : l′ ≡ listAfter t w l) where
   by-number : tableRefusal t (length w) (length l) ≡ r .number
@@ -40,9 +50,13 @@ module _ (t w l : List ℕ) (room : length t ≤ length w) (list-room : tableCap
   list-is : l′ ≡ cond (eqb (r .number) 11) (counterexample t ++ drop (length (counterexample t)) l) l
   list-is = listed ∙ list-after t w l (r .number) by-number
 
+  contents-is : contentsRefusal (onTable t) ≡ r .number
+  unfolding contentsRefusal
+  contents-is = sym (same-refusal t (length w) (length l) room list-room) ∙ by-number
+
   refusal-is : stepRefusal (tableCapacity t) (onTable t) ≡ r .number
-  unfolding stepRefusal contentsRefusal
-  refusal-is = rw (eq-eqb (tableCapacity t) (tableCapacity t) refl) (sym (same-refusal t (length w) (length l) room list-room) ∙ by-number)
+  unfolding stepRefusal
+  refusal-is = rw (eq-eqb (tableCapacity t) (tableCapacity t) refl) contents-is
 
   pub entries-refused : (r .number ≡ 0 → ⊥) → StepJudged (tableCapacity t) (onTable t) l (record { number = r .number; scale = 0; length = r .length }) l′
   unfolding stepAnswer stepList
@@ -61,8 +75,9 @@ module _ (t w l : List ℕ) (room : length t ≤ length w) (list-room : tableCap
       written false n e = rw e
 
   pub entries-pass : r .number ≡ 0 → (d : ℕ) → d ≡ tableScale t → StepJudged (tableCapacity t) (onTable t) l (record { number = 0; scale = d; length = 0 }) l′
-  unfolding stepAnswer stepScale stepList
-  entries-pass none d e = record { answer-is = rw (refusal-is, none, e); list-is = list-is ∙ rw none }
+  entries-pass none d e =
+      let kept : l′ ≡ l = list-is ∙ rw none in
+      rw kept (checked-before (tableCapacity t) t l refl (contents-is ∙ none) d e)
 
 -- a family step leaves the list buffer
 pub family-step : (c family p q : ℕ) (list : List ℕ) (r : StepAnswer) → r ≡ stepAnswer c (onFamily family p q) → StepJudged c (onFamily family p q) list r list
@@ -81,13 +96,3 @@ module _ (n : ℕ) (bytes : List ℕ) (whole : length bytes ≡ 4 * n) where
       word-of n bytes whole (n - 1) (omega arith)
       ∙ ap (λ (k : ℕ). getD (words bytes) (k - 1) 0) (sym (words-length n bytes whole))
       ∙ sym (scale-is-last (words bytes))
-
--- a table at a capacity, its entries not looked at: another capacity is told first, and entries that passed before pass
-module _ (c : ℕ) (t l : List ℕ) where
-  pub another-capacity : (tableCapacity t ≡ c → ⊥) → StepJudged c (onTable t) l (record { number = 18; scale = 0; length = 0 }) l
-  unfolding stepAnswer stepList
-  another-capacity other = record { answer-is = rw (another-first c t other); list-is = refl }
-
-  pub checked-before : tableCapacity t ≡ c → contentsRefusal (onTable t) ≡ 0 → (d : ℕ) → d ≡ tableScale t → StepJudged c (onTable t) l (record { number = 0; scale = d; length = 0 }) l
-  unfolding stepAnswer stepRefusal stepScale stepList
-  checked-before same passed d e = record { answer-is = rw (eq-eqb (tableCapacity t) c same, passed, e); list-is = refl }

@@ -1,7 +1,7 @@
-use lib.ListN.{length, length-take}
 -- `judge_entries` meets its contract: an array of the longest table has room for any.
 use mathlib.Core.Path.{ap, sym, _∙_}
 use native.Mathlib.Omega.{arith}
+use lib.ListN.{length, length-take}
 use lib.Seq.{length-take-le}
 use Rattle.fields.proofs.Filling.{span-length}
 use borrow.Author.Needs.{needs}
