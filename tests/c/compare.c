@@ -38,11 +38,21 @@ static const char *const shape_names[SHAPES] = {
     "64 rows",
 };
 
+/* Quotients that are rounded up, by what their remainder is. */
+enum quotient { OF_FAMILY_4, OF_FAMILY_6, OF_FAMILY_7, OF_JOB, OF_SWEEP, QUOTIENTS };
+enum remainder { NONE, ONE, ONE_SHORT, ANOTHER, REMAINDERS };
+
+static const char *const quotient_names[QUOTIENTS] = {
+    "  family 4", "  family 6", "  family 7", "  floor", "  sweep",
+};
+static const char *const remainder_names[REMAINDERS] = {"0", "1", "divisor less 1", "another"};
+
 /* What was seen: how often each number came from each operation, and from how many steps a job, or a job
  * of rows, got through, or at which it was refused. */
 static unsigned long seen[TALLIES][NUMBERS];
 static unsigned long accepted_steps[2][STEPS], refused_step[2][STEPS];
 static unsigned long accepted_shapes[SHAPES];
+static unsigned long rounded[QUOTIENTS][REMAINDERS];
 
 /* Inputs lie right before memory that cannot be read, so that a read past their end is a crash. */
 
@@ -164,6 +174,25 @@ static void judge(enum tally operation, const void *library, const void *referen
     exit(1);
 }
 
+static void count_rounded(enum quotient quotient, uint64_t a, uint64_t b)
+{
+    uint64_t left = a % b;
+    rounded[quotient][left == 0 ? NONE : left == 1 ? ONE : left == b - 1 ? ONE_SHORT : ANOTHER]++;
+}
+
+/* The quotient that an accepted image rounds up, if there is one. */
+static void count_image(const struct image_input *in)
+{
+    uint64_t lesser = 2 * in->x < in->capacity ? in->x : in->capacity - in->x;
+    if (in->family == 4 && lesser > 0)
+        count_rounded(OF_FAMILY_4, in->p * lesser, in->capacity);
+    if (in->family < 6)
+        return;
+    uint64_t r = in->capacity % in->p, a = (in->family == 6 ? lesser : in->x) % in->p;
+    if (a > r)
+        count_rounded(in->family == 6 ? OF_FAMILY_6 : OF_FAMILY_7, (a - r) * in->q, in->p - r);
+}
+
 static void compare_image(void)
 {
     struct image_input in;
@@ -174,6 +203,8 @@ static void compare_image(void)
     struct windowfloor_image_answer reference =
         reference_image(in.capacity, in.family, in.p, in.q, in.x);
     judge(IMAGE, &library, &reference, sizeof library, 1, &in, sizeof in);
+    if (library.number == 0)
+        count_image(&in);
 }
 
 static void compare_table(void)
@@ -259,6 +290,14 @@ static void count_shape(const struct job_input *in, const uint32_t *scales)
     accepted_shapes[MOST_ROWS] += rows == WINDOWFLOOR_MOST_ROWS;
 }
 
+static void count_accepted(const struct job_input *in, const struct windowfloor_job_answer *answer,
+                           const uint32_t *scales)
+{
+    count_shape(in, scales);
+    if (in->bytes[3] == WINDOWFLOOR_KIND_FLOOR)
+        count_rounded(OF_JOB, answer->sum, answer->scale);
+}
+
 /* Where a step starts, counted from 1, in a job that has so many. */
 static size_t step_at(const struct job_input *in, uint64_t step)
 {
@@ -314,9 +353,18 @@ static void compare_job(const struct job_input *in)
           in->bytes, in->length);
     count_step(in, &library);
     if (library.number == 0)
-        count_shape(in, library_places(&scales));
+        count_accepted(in, &library, library_places(&scales));
     else
         count_refusal(in, &library);
+}
+
+/* The quotient of the floor that a sweep has found. */
+static void count_sweep(const struct sweep_input *in, uint64_t p)
+{
+    uint64_t sum = 0;
+    for (size_t i = 0; i < in->n; i++)
+        sum += reference_image(in->capacity, in->family, p, 0, in->sizes[i]).image;
+    count_rounded(OF_SWEEP, sum, reference_image(in->capacity, in->family, p, 0, 0).scale);
 }
 
 static void compare_sweep(const struct sweep_input *in)
@@ -329,6 +377,8 @@ static void compare_sweep(const struct sweep_input *in)
         reference_sweep(in->capacity, in->family, sizes, in->n, in->low, in->high);
     judge(SWEEP, &library, &reference, sizeof library, memcmp(sizes, in->sizes, bytes) == 0,
           in, sizeof *in);
+    if (library.number == 0)
+        count_sweep(in, library.p);
 }
 
 static void compare_lengths(unsigned kind, size_t from, size_t to)
@@ -467,6 +517,20 @@ static void report_shapes(int *lacking)
     printf("\n");
 }
 
+static void report_rounded(int *lacking)
+{
+    printf("quotients rounded up by their remainder\n");
+    for (int quotient = 0; quotient < QUOTIENTS; quotient++) {
+        printf("%-11s", quotient_names[quotient]);
+        for (int remainder = 0; remainder < REMAINDERS; remainder++) {
+            printf("  %s:%lu", remainder_names[remainder], rounded[quotient][remainder]);
+            if (rounded[quotient][remainder] == 0)
+                *lacking = printf(" MISSING");
+        }
+        printf("\n");
+    }
+}
+
 static unsigned long report_all(int *lacking)
 {
     printf("inputs by number of refusal (0: accepted)\n");
@@ -477,6 +541,7 @@ static unsigned long report_all(int *lacking)
     printf("tables refused with 18 by what the table check says\n");
     for (enum tally kind = BEHIND_18; kind <= LAST_BEHIND_18; kind++)
         report(kind, lacking);
+    report_rounded(lacking);
     report_shapes(lacking);
     report_steps("accepted jobs by steps  ", accepted_steps[0], lacking);
     report_steps("  of rows               ", accepted_steps[1], lacking);

@@ -142,11 +142,14 @@ static uint64_t random_size(uint64_t capacity, uint64_t least)
     return x < least ? least : x;
 }
 
-/* A size near a place where the step's formula changes. */
+/* A size near a place where the step's formula changes: in family 4 that is each p-th of the capacity. */
 static uint64_t edge_size(uint64_t capacity, struct family_step s)
 {
-    uint64_t times = s.p == 0 ? 0 : below(capacity / lesser(s.p, capacity) + 1);
-    uint64_t x = one_in(3) ? capacity - lesser(s.p, capacity) : times * s.p;
+    uint64_t p = lesser(s.p, capacity);
+    uint64_t times = p == 0 ? 0 : below(capacity / p + 1);
+    uint64_t x = one_in(3) ? capacity - p : times * p;
+    if (s.family == 4 && p != 0)
+        x = below(p + 1) * capacity / p;
     if (s.family >= 5 && s.p != 0 && below(2))
         x += capacity % s.p;
     return lesser(x + below(2), capacity);

@@ -2,6 +2,7 @@
 crates/image_cases/stdout (their answers: number image scale). With --check it
 writes nothing and fails if a stored file differs."""
 
+import math
 import random
 import sys
 
@@ -9,7 +10,7 @@ sys.dont_write_bytecode = True
 import windowfloor as wf
 from case_files import lines, store_or_check
 
-TOTAL = 690
+TOTAL = 734
 FAMILIES = range(1, 8)
 LIMIT = 1_000_000_000
 MAX = 2**64 - 1
@@ -106,6 +107,31 @@ def scales():
         yield capacity, family, p, q, capacity // 2
 
 
+def factors(number, divisor):
+    """Factors from 1 to below the divisor with which the number leaves 0, 1 and the divisor less 1: the least and the
+    greatest of each."""
+    common = math.gcd(number, divisor)
+    period = divisor // common
+    for left in (0, 1, divisor - 1):
+        first = left // common * pow(number // common, -1, period) % period or period
+        if left % common == 0 and first < divisor:
+            yield first
+            yield first + (divisor - 1 - first) // period * period
+
+
+def roundings():
+    """Quotients that are rounded up, exact and beside it, from the least numbers to the greatest."""
+    for capacity, p in ((10, 5), (10, 3), (12, 8), (1000, 640), (99_991, 4096), (LIMIT, 2), (LIMIT, 3),
+                        (LIMIT, 400_000_000), (LIMIT - 1, 500_000_000), (LIMIT, 500_000_001)):
+        for y in factors(p, capacity):
+            yield from ((capacity, 4, p, 0, x) for x in (y, capacity - y))
+    for capacity, p, q in ((14, 6, 6), (13, 6, 7), (20, 12, 3), (1003, 99, 28), (1_000_003, 999, 400),
+                           (10**6, 700_001, 900), (LIMIT - 1, 600_000_000, 499_999_998), (LIMIT, 600_000_000, 3)):
+        r = capacity % p
+        for b in factors(q, p - r):
+            yield from ((capacity, family, p, q, x) for family in (6, 7) for x in (r + b, capacity - r - b))
+
+
 def some_number(rng, digits):
     return min(rng.randint(0, 10 ** rng.randint(1, digits)), MAX)
 
@@ -127,7 +153,7 @@ def random_legal(rng, family):
 def all_cases():
     """Each case once, in the order of its first making."""
     cases = {}
-    for part in (reckoned, small, limits, orders, scales):
+    for part in (reckoned, small, limits, orders, scales, roundings):
         cases.update(dict.fromkeys(part()))
     rng = random.Random(20_000)
     while len(cases) < TOTAL:

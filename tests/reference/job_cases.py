@@ -29,6 +29,7 @@ RANDOM = 600  # valid jobs, and as many damaged ones of each kind
 MOST_BYTES = 65_536
 BLOCK, MOST_BLOCKS = 65_536, 32
 SIZES, ENTRIES = 2048, 2048  # the most of one job and of one table
+SAME = 0x3B3B3B3B  # a size under the limit whose repeats are one run
 
 
 def good_fields(kind):
@@ -136,20 +137,39 @@ def kinds():
 
 def counts():
     """The number of sizes at its limits, and sums over 32 bits."""
-    same = 0x3B3B3B3B  # under the limit, in one run
     for n in (0, 1, 2, SIZES - 1, SIZES, SIZES + 1):
         for kind in (0, 1, 2):
-            yield make(job(kind, LIMIT, (same,) * n))
-            yield make(job(kind, LIMIT, (same,) * n, family(1, LIMIT // 2)))
+            yield make(job(kind, LIMIT, (SAME,) * n))
+            yield make(job(kind, LIMIT, (SAME,) * n, family(1, LIMIT // 2)))
             yield make(job(kind, LIMIT, (0,) * n), MOST_PLACES, MOST_PLACES, MOST_PLACES)
     yield make(job(1, LIMIT, (LIMIT,) * SIZES))
-    yield make(job(1, LIMIT, (same,) * (SIZES - 1) + (0,)))
-    yield make(job(2, LIMIT, (same,) * (SIZES - 1) + (MAX,)))
+    yield make(job(1, LIMIT, (SAME,) * (SIZES - 1) + (0,)))
+    yield make(job(2, LIMIT, (SAME,) * (SIZES - 1) + (MAX,)))
     rng = random.Random(30_000)
     yield make(job(1, LIMIT, [rng.randint(1, LIMIT) for _ in range(SIZES)], family(5, 7)))
     sizes = [rng.randint(0, 900) for _ in range(SIZES)]
     entries = (0, 0, 1, 1, 2, 2, 3, 3, 4, 4, 5, 6, 6, 7, 7, 8, 8)
     yield make(job(2, 900, sizes, family(4, 9), table(*entries)))
+
+
+def sum_leaving(rng, capacity, steps, left):
+    """A job whose sum is so many more than a multiple of E."""
+    while True:
+        case = make(job(1, capacity, [rng.randint(1, capacity) for _ in range(rng.randint(2, 9))], *steps))
+        _, _, _, total, scale, *_ = answer(case)
+        if (total - left) % scale == 0:
+            return case
+
+
+def roundings():
+    """Floors of sums that are a multiple of E, and next to one."""
+    rng = random.Random(50_000)
+    for capacity, *steps in ((96,), (96, family(3, 7)), (96, family(1, 20), family(4, 8)),
+                             (6, table(0, 0, 2, 3, 3, 4, 6), family(5, 4))):
+        for left in (0, 1, -1):
+            yield sum_leaving(rng, capacity, steps, left)
+    for last in (1, SAME - 1, SAME):
+        yield make(job(1, SAME, (SAME,) * (SIZES - 1) + (last,)))
 
 
 def buffers():
@@ -208,7 +228,7 @@ def all_cases():
     """Each case once, in the order of its first making."""
     cases = {}
     for part in (reckoned, form, truncated, tag_orders, lengths, chains, bad_steps, other_capacities,
-                 capacities, kinds, counts, buffers, longest, random_cases, row_cases):
+                 capacities, kinds, counts, roundings, buffers, longest, random_cases, row_cases):
         cases.update(dict.fromkeys(part()))
     return list(cases)
 

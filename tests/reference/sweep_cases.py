@@ -125,6 +125,25 @@ def ties():
         yield make(60, family, 0, 60)
 
 
+def list_leaving(rng, capacity, family, p, left):
+    """A list whose images sum to so many more than a multiple of the scale."""
+    scale = wf.family_scale(capacity, family, p, 0)
+    while True:
+        sizes = [rng.randint(1, capacity) for _ in range(rng.randint(2, 9))]
+        if (sum(wf.family_image(capacity, family, p, 0, x) for x in sizes) - left) % scale == 0:
+            return sizes
+
+
+def roundings():
+    """Floors of one p whose sum is a multiple of the scale, and next to one: family 2 has sums by 12 alone here."""
+    rng = random.Random(60_000)
+    for family, p, by in ((1, 0, 1), (1, 20, 1), (2, 7, 12), (3, 7, 1), (4, 8, 1), (5, 7, 1)):
+        for left in (0, by, -by):
+            yield of(96, family, p, p, *list_leaving(rng, 96, family, p, left))
+    for last in (1, LIMIT - 1):
+        yield make(LIMIT, 1, 0, 0, (SIZES - 1, LIMIT), (1, last))
+
+
 def random_cases():
     rng = random.Random(40_000)
     for _ in range(RANDOM):
@@ -142,7 +161,8 @@ def random_cases():
 def all_cases():
     """Each case once, in the order of its first making."""
     cases = {}
-    for part in (reckoned, form, faults, ranges, last_alone, limits, counts, ties, random_cases):
+    for part in (reckoned, form, faults, ranges, last_alone, limits, counts, ties, roundings,
+                 random_cases):
         cases.update(dict.fromkeys(part()))
     return list(cases)
 

@@ -1,14 +1,14 @@
 -- Families 1 to 4, or what they mirror, are superadditive.
 use mathlib.Core.Path.{_≡_, ap, _∙_, refl}
 use mathlib.Core.Logic.{_⊎_, inl, inr, ⊎-elim}
-use Prim.Native.Nat.{ℕ, _+_, _-_, _*_, _/_, _%_, _≤_, _<_, min}
-use native.Mathlib.Nat.{div-add-mod', eq-zero-or-pos, zero-div, zero-mod, mul-le-mul}
+use Prim.Native.Nat.{ℕ, _+_, _-_, _*_, _/_, _%_, _≤_, _<_}
+use native.Mathlib.Nat.{div-add-mod', eq-zero-or-pos, zero-mod, mul-le-mul}
 use native.Mathlib.Omega.{arith}
 use borrow.Author.Tests.{lt-ltb, le-ltb, eq-eqb, ne-eqb}
 use Rattle.functions.specs.Families.{threshold, rounding, quotient, vanderbeck, _up_}
 use Rattle.functions.proofs.Cases.{lt-or-ge}
 use Rattle.functions.proofs.Superadditive.{Superadditive}
-use Rattle.functions.proofs.Quotient.{Carry, none, one, carry, by-quotient-and-remainder, up-zero, up-before, up-sum, up-exact, up-greatest}
+use Rattle.functions.proofs.Quotient.{Carry, none, one, carry, by-quotient-and-remainder, up-zero, up-sum, up-exact, up-greatest}
 
 module _ (c p : ℕ) where
   pub threshold-top : (x : ℕ) → c - p < x → threshold c p x ≡ c
@@ -123,31 +123,17 @@ module _ (c p : ℕ) (pos : 0 < c) (least : 1 ≤ p) where
       let one-up : 1 ≤ ((p * x) up c) = up-greatest c pos (p * x) 1 (omega (arith, mul-le-mul least l)) in
       simp (ne-eqb x 0 (omega arith)) (omega arith)
 
-  -- the quotient rounded up, less 1 where the size is not 0
-  pub vanderbeck-is : (x : ℕ) → vanderbeck c p x + min x 1 ≡ (p * x) up c
+  -- without a test: the quotient rounded up is 0 at 0, and the difference stops there
+  pub vanderbeck-is : (x : ℕ) → vanderbeck c p x ≡ ((p * x) up c) - 1
   vanderbeck-is x = ⊎-elim none some (eq-zero-or-pos x)
     where
-      none : x ≡ 0 → vanderbeck c p x + min x 1 ≡ (p * x) up c
+      none : x ≡ 0 → vanderbeck c p x ≡ ((p * x) up c) - 1
       none e =
           let nothing : ((p * x) up c) ≡ (0 up c) = ap (λ (n : ℕ). n up c) (omega (arith, ap (λ (n : ℕ). p * n) e)) in
           omega (arith, ap (vanderbeck c p) e, vanderbeck-zero, nothing, up-zero c)
 
-      some : 0 < x → vanderbeck c p x + min x 1 ≡ (p * x) up c
+      some : 0 < x → vanderbeck c p x ≡ ((p * x) up c) - 1
       some l = omega (arith, vanderbeck-positive x l)
-
-  -- with one quotient, rounded down
-  pub vanderbeck-down : (x : ℕ) → vanderbeck c p x ≡ (p * x - min x 1) / c
-  vanderbeck-down x = ⊎-elim none some (eq-zero-or-pos x)
-    where
-      none : x ≡ 0 → vanderbeck c p x ≡ (p * x - min x 1) / c
-      none e =
-          let nothing : p * x - min x 1 ≡ 0 = omega (arith, ap (λ (n : ℕ). p * n) e) in
-          omega (arith, ap (vanderbeck c p) e, vanderbeck-zero, ap (λ (n : ℕ). n / c) nothing, zero-div c)
-
-      some : 0 < x → vanderbeck c p x ≡ (p * x - min x 1) / c
-      some l =
-          let one : p * x - min x 1 ≡ p * x - 1 = omega arith in
-          omega (arith, vanderbeck-is x, up-before c pos (p * x) (omega (arith, mul-le-mul least l)), ap (λ (n : ℕ). n / c) one)
 
   pub vanderbeck-superadditive : Superadditive (vanderbeck c p) c
   vanderbeck-superadditive = record { at-zero = vanderbeck-zero; sums = λ x y l. go x y (eq-zero-or-pos x) (eq-zero-or-pos y) }

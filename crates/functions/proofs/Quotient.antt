@@ -97,10 +97,6 @@ module _ (d : ℕ) (pos : 0 < d) where
   pub up-greatest : (a k : ℕ) → k * d < a + d → k ≤ (a up d)
   up-greatest a k l = ⊎-elim (λ less. absurd (omega (arith, up-reaches a, mul-le-mul-right d less))) (λ h. h) (lt-or-ge (a up d) k)
 
-  pub up-before : (a : ℕ) → 1 ≤ a → (a up d) ≡ (a - 1) / d + 1
-  unfolding _up_
-  up-before a some = div-of d _ ((a - 1) % d) _ (omega (arith, div-add-mod' (a - 1) d)) (mod-lt (a - 1) pos)
-
   pub up-most : (a : ℕ) → (a up d) ≤ a
   up-most a = up-least a a (omega (arith, mul-le-mul-left a pos))
 

@@ -48,27 +48,27 @@ module _ (s : PreparedStep) where
     pub ready-2 : PreparedFor 2 s → (0 < s .capacity) × (s .p ≤ limit) × (x < 2 ^ 32)
     ready-2 r = omega (arith, step-limits 2 r)
 
-    pub ready-3 : PreparedFor 3 s → (x < 2 ^ 32) × (s .capacity ≤ limit) × (0 < s .p) × (s .top ≡ quotient (s .p) (s .capacity))
+    pub ready-3 : PreparedFor 3 s → (x ≤ s .capacity) × (s .capacity ≤ limit) × (0 < s .p) × (s .top ≡ quotient (s .p) (s .capacity))
     unfolding topOf
     ready-3 r =
         let w = step-limits 3 r in
-        (omega arith, w .capacity-within-limit, legal-3 _ _ _ (legal-step 3 r) .0, top-is 3 r)
+        (l, w .capacity-within-limit, legal-3 _ _ _ (legal-step 3 r) .0, top-is 3 r)
 
-    pub ready-4 : PreparedFor 4 s → (x < 2 ^ 32) × (0 < s .capacity) × (s .capacity ≤ limit) × (1 ≤ s .p) × (s .p ≤ limit) × (s .top ≡ vanderbeck (s .capacity) (s .p) (s .capacity))
+    pub ready-4 : PreparedFor 4 s → (x ≤ s .capacity) × (0 < s .capacity) × (s .capacity ≤ limit) × (1 ≤ s .p) × (s .p ≤ limit) × (s .top ≡ vanderbeck (s .capacity) (s .p) (s .capacity))
     unfolding topOf
     ready-4 r =
         let w = step-limits 4 r in
-        (omega arith, w .capacity-positive, w .capacity-within-limit, omega (arith, legal-4 _ _ _ (legal-step 4 r)), w .p-within-limit, top-is 4 r)
+        (l, w .capacity-positive, w .capacity-within-limit, omega (arith, legal-4 _ _ _ (legal-step 4 r)), w .p-within-limit, top-is 4 r)
 
     pub ready-5 : PreparedFor 5 s → s .remainder < s .p
     ready-5 r = rw (remainder-is 5 refl r) (mod-lt (s .capacity) (legal-5 _ _ _ (legal-step 5 r) .0))
 
-    pub ready-6 : PreparedFor 6 s → (x < 2 ^ 32) × (s .capacity ≤ limit) × (s .p ≤ s .capacity) × (s .q ≤ limit) × (s .remainder < s .p) × (s .p - s .remainder ≤ s .q * s .remainder) × (s .top ≡ letchfordLodi (s .p) (s .q) (s .remainder) (s .capacity))
+    pub ready-6 : PreparedFor 6 s → (x ≤ s .capacity) × (s .capacity ≤ limit) × (s .p ≤ s .capacity) × (s .q ≤ limit) × (s .remainder < s .p) × (s .p - s .remainder ≤ s .q * s .remainder) × (s .top ≡ letchfordLodi (s .p) (s .q) (s .remainder) (s .capacity))
     unfolding topOf
     ready-6 r =
         let w = step-limits 6 r in
         let pair = legal-6 _ _ _ (legal-step 6 r) in
-        rw (remainder-is 6 refl r) (omega arith, w .capacity-within-limit, pair .most, w .q-within-limit, pair .below, pair .enough, top-is 6 r)
+        rw (remainder-is 6 refl r) (l, w .capacity-within-limit, pair .most, w .q-within-limit, pair .below, pair .enough, top-is 6 r)
 
     pub ready-7 : PreparedFor 7 s → (s .remainder < s .p) × (s .p ≤ limit) × (s .q ≤ limit) × (x ≤ limit)
     ready-7 r =

@@ -2,7 +2,7 @@
 // remainder of the capacity, comes in as a number, so that a loop over sizes computes it once.
 use crate::round_up;
 ghost use mathlib.Core.Path.{_≡_};
-ghost use Prim.Native.Nat.{ℕ, _-_, _*_, _^_, _≤_, _<_, min};
+ghost use Prim.Native.Nat.{ℕ, _+_, _-_, _*_, _^_, _≤_, _<_, min};
 ghost use Rattle.functions.specs.Words.{limit};
 ghost use Rattle.functions.specs.Families.{mirror, threshold, rounding, quotient, vanderbeck};
 ghost use Rattle.functions.specs.Families.{burdettJohnson, letchfordLodi, dashGunluk};
@@ -20,31 +20,24 @@ fn excess(a: u64, b: u64) -> u64
     if b < a { a - b } else { 0 }
 }
 
-// The size, or what it leaves of the capacity, whichever is less.
-fn lesser_part(capacity: u64, x: u64) -> u64
-    ensures { λ r. ⌜ r ≡ min x (capacity - x) ⌝ }
-{
-    lesser(x, excess(capacity, x))
-}
-
 // Half of the mirror's value at x, but for the middle.
-fn side(capacity: u64, top: u64, part: u64, x: u64) -> u64
-    requires { ⌜ (x < 2 ^ 32) × (part ≤ top) ⌝ }
-    ensures { λ r. ⌜ (r ≤ top)
-        × ((2 * x < capacity → r ≡ part) × (capacity ≤ 2 * x → r ≡ top - part)) ⌝ }
+fn side(top: u64, part: u64, x: u64, rest: u64) -> u64
+    requires { ⌜ part ≤ top ⌝ }
+    ensures { λ r. ⌜ (r ≤ top) × ((x < rest → r ≡ part) × (rest ≤ x → r ≡ top - part)) ⌝ }
 {
-    if 2 * x < capacity { part } else { top - part }
+    if x < rest { part } else { top - part }
 }
 
-// The mirror of a function at x, from its values: top at the capacity, and part at the lesser part.
-// Both tests choose between numbers that are there, so that the compiler needs no branch.
-fn mirrored(capacity: u64, top: u64, part: u64, x: u64) -> u64
-    requires { ⌜ (x < 2 ^ 32) × (part ≤ top) × (2 * top < 2 ^ 64) ⌝ }
-    ensures { λ r. ⌜ ((g : ℕ → ℕ) → g capacity ≡ top → g (min x (capacity - x)) ≡ part
-        → r ≡ mirror capacity g x) ⌝ }
+// The mirror of a function at x, from its values: top at the capacity c, and part at the lesser of
+// x and the rest, which x leaves of c. Both tests choose between numbers that are there, so that
+// the compiler needs no branch.
+fn mirrored(top: u64, part: u64, x: u64, rest: u64) -> u64
+    requires { ⌜ (part ≤ top) × (2 * top < 2 ^ 64) ⌝ }
+    ensures { λ r. ⌜ ((c : ℕ) (g : ℕ → ℕ) → x + rest ≡ c → g c ≡ top → g (min x rest) ≡ part
+        → r ≡ mirror c g x) ⌝ }
 {
-    let half = side(capacity, top, part, x);
-    if 2 * x == capacity { top } else { 2 * half }
+    let half = side(top, part, x, rest);
+    if x == rest { top } else { 2 * half }
 }
 
 // Family 1.
@@ -73,22 +66,23 @@ pub(crate) fn rounding(capacity: u64, p: u64, x: u64) -> u64
 
 // Family 3, with top = capacity / p.
 pub(crate) fn mirrored_quotient(capacity: u64, p: u64, top: u64, x: u64) -> u64
-    requires { ⌜ (x < 2 ^ 32) × (capacity ≤ limit) × (0 < p) × (top ≡ quotient p capacity) ⌝ }
+    requires { ⌜ (x ≤ capacity) × (capacity ≤ limit) × (0 < p) × (top ≡ quotient p capacity) ⌝ }
     ensures { λ r. ⌜ r ≡ mirror capacity (quotient p) x ⌝ }
 {
-    mirrored(capacity, top, lesser_part(capacity, x) / p, x)
+    let rest = capacity - x;
+    mirrored(top, lesser(x, rest) / p, x, rest)
 }
 
-// Family 4, with top = p - 1. A quotient rounded up, less 1, is that of the number before,
-// rounded down.
+// Family 4, with top = p - 1. The quotient is 0 for the size 0 alone, so that a difference which
+// stops at 0 takes 1 off every other and nothing there.
 pub(crate) fn mirrored_vanderbeck(capacity: u64, p: u64, top: u64, x: u64) -> u64
-    requires { ⌜ (x < 2 ^ 32) × (0 < capacity) × (capacity ≤ limit) × (1 ≤ p) × (p ≤ limit)
+    requires { ⌜ (x ≤ capacity) × (0 < capacity) × (capacity ≤ limit) × (1 ≤ p) × (p ≤ limit)
         × (top ≡ vanderbeck capacity p capacity) ⌝ }
     ensures { λ r. ⌜ r ≡ mirror capacity (vanderbeck capacity p) x ⌝ }
 {
-    let y = lesser_part(capacity, x);
-    let part = (p * y - lesser(y, 1)) / capacity;
-    mirrored(capacity, top, part, x)
+    let rest = capacity - x;
+    let part = excess(round_up(p * lesser(x, rest), capacity), 1);
+    mirrored(top, part, x, rest)
 }
 
 // Family 5, with r = capacity % p.
@@ -115,12 +109,13 @@ pub(crate) fn mirrored_letchford_lodi(
     top: u64,
     x: u64,
 ) -> u64
-    requires { ⌜ (x < 2 ^ 32) × (capacity ≤ limit) × (p ≤ capacity) × (q ≤ limit)
+    requires { ⌜ (x ≤ capacity) × (capacity ≤ limit) × (p ≤ capacity) × (q ≤ limit)
         × (r < p) × (p - r ≤ q * r) × (top ≡ letchfordLodi p q r capacity) ⌝ }
     ensures { λ y. ⌜ y ≡ mirror capacity (letchfordLodi p q r) x ⌝ }
 {
-    let part = letchford_lodi(p, q, r, lesser_part(capacity, x));
-    mirrored(capacity, top, part, x)
+    let rest = capacity - x;
+    let part = letchford_lodi(p, q, r, lesser(x, rest));
+    mirrored(top, part, x, rest)
 }
 
 // Family 7, with r = capacity % p. The gap p - r divides q * (p - a) where it divides n.

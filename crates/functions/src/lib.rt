@@ -6,7 +6,7 @@ mod steps;
 
 ghost use mathlib.Core.Path.{_≡_};
 ghost use mathlib.Core.List.{map};
-ghost use Prim.Native.Nat.{_+_, _*_, _^_, _<_};
+ghost use Prim.Native.Nat.{_+_, _-_, _*_, _^_, _<_};
 ghost use lib.ListN.{length};
 ghost use Rattle.functions.specs.Words.{limit, capacityFits, total, EachWithin};
 ghost use Rattle.functions.specs.Families.{_up_, familyImage, familyScale};
@@ -29,9 +29,9 @@ pub struct FamilyAnswer {
     pub scale: u64,
 }
 
-// The quotient rounded up.
+// The quotient rounded up, without a test. Every quotient that is rounded up is computed here.
 pub fn round_up(a: u64, b: u64) -> u64
-    requires { ⌜ (0 < b) × (a + b < 2 ^ 64) ⌝ }
+    requires { ⌜ (0 < b) × (a + (b - 1) < 2 ^ 64) ⌝ }
     ensures { λ r. ⌜ r ≡ (a up b) ⌝ }
 {
     (a + (b - 1)) / b

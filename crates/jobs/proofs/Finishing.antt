@@ -2,7 +2,7 @@
 use mathlib.Core.Path.{_≡_, ap, sym, _∙_}
 use mathlib.Core.Bool.{Bool, true, false, cond}
 use mathlib.Core.List.{List, _++_, map}
-use Prim.Native.Nat.{ℕ, _+_, _*_, _^_, _≤_, _<_}
+use Prim.Native.Nat.{ℕ, _+_, _-_, _*_, _^_, _≤_, _<_}
 use native.Mathlib.Omega.{arith}
 use borrow.Author.Tests.{eq-eqb, ne-eqb}
 use lib.Dec.{eqb}
@@ -64,7 +64,7 @@ module _ (fields : List Field) (accepted : judgeFields fields .number ≡ 0) (li
       count : length images ≡ jobCount fields
       count = ap length (is .images-are) ∙ length-map (jobSizes fields) _ ∙ sym count-of
 
-      pub roundable : (sum : ℕ) → sum ≤ mostSizes * 2 ^ 32 → (0 < scale) × (sum + scale < 2 ^ 64)
+      pub roundable : (sum : ℕ) → sum ≤ mostSizes * 2 ^ 32 → (0 < scale) × (sum + (scale - 1) < 2 ^ 64)
       roundable sum l = (omega (arith, is .scale-is, promise .scale-positive), omega (arith, is .scale-is, promise .scale-within-limit))
 
       pub floor-answer : parts .kind ≡ 1 → (sum floor : ℕ) → sum ≡ total images → floor ≡ (sum up scale) → record { number = 0; n = length images; floor = floor; sum = sum; scale = scale; step = 0; length = 0; row = 0 } ≡ acceptedAnswer fields

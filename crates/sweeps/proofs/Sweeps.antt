@@ -122,7 +122,7 @@ module _ (c family : ℕ) (sizes : List ℕ) where
     scale-family = scaled .scale-is
 
     module _ (sum : ℕ) (sum-is : sum ≡ total (map (familyImage c family p 0) sizes)) where
-      pub roundable : (0 < scale) × (sum + scale < 2 ^ 64)
+      pub roundable : (0 < scale) × (sum + (scale - 1) < 2 ^ 64)
       roundable =
           (omega (arith, scale-family, promise .scale-positive), omega (arith, scale-family, promise .scale-within-limit, sum-is, sum-small c family p 0 sizes accepted (sizes-each c sizes fine), fine .few))
 

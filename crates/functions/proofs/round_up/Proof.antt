@@ -1,5 +1,5 @@
 -- `round_up` meets its contract: the definition has the same shape.
-use mathlib.Core.Path.{refl}
+use native.Mathlib.Omega.{arith}
 use Rattle.functions.specs.Families.{_up_}
 use borrow.Author.Needs.{needs}
 use Rattle.functions.proofs.round_up.Statement.{statement}
@@ -16,7 +16,7 @@ div-result c = search needs
 
 returns : tie.Need-returns
 unfolding _up_
-returns c = refl
+returns c = omega arith
 
 pub round-up-spec : {M : Type 1} → statement M
 round-up-spec = tie.close (tie.spec sub-result add-result div-result returns)

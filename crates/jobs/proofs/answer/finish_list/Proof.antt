@@ -1,6 +1,5 @@
 -- `finish_list` meets its contract: sizes mapped through the steps, and their sum.
 use mathlib.Core.Path.{_∙_}
-use native.Mathlib.Omega.{arith}
 use Rattle.jobs.proofs.Finishing.{appliable, images-are, roundable, floor-answer, cut-answer}
 use borrow.Author.Needs.{needs}
 use Rattle.jobs.proofs.answer.finish_list.Statement.{statement}
@@ -18,7 +17,7 @@ round-up-requires : tie.Need-round-up-requires
 round-up-requires c κs =
     let mapped = c .before .before .before .before .before .before in
     let pre = mapped .before .before .before .before .before .pre in
-    omega (arith, roundable _ (pre .1) (pre .2) _ _ (pre .0) _ _ (mapped .map-list .ensures) _ (c .sum-of .ensures .1))
+    roundable _ (pre .1) (pre .2) _ _ (pre .0) _ _ (mapped .map-list .ensures) _ (c .sum-of .ensures .1)
 
 accepted-requires : tie.Need-accepted-requires
 accepted-requires c κs = search needs

@@ -1,5 +1,4 @@
 -- `floor_of` meets its contract: the sum fits, and so does its quotient rounded up.
-use native.Mathlib.Omega.{arith}
 use Rattle.sweeps.proofs.Sweeps.{sizes-each, few-enough, accepted, roundable, floor-is}
 use Rattle.sweeps.proofs.sweep.floor_of.Statement.{statement}
 use Rattle.sweeps.proofs.sweep.floor_of.Tie as tie
@@ -12,7 +11,7 @@ sum-family-requires c κs =
 round-up-requires : tie.Need-round-up-requires
 round-up-requires c κs =
     let pre = c .before .before .pre in
-    omega (arith, roundable _ _ _ _ _ (pre .0) (pre .1) _ (c .sum-family .ensures))
+    roundable _ _ _ _ _ (pre .0) (pre .1) _ (c .sum-family .ensures)
 
 returns : tie.Need-returns
 returns c =
