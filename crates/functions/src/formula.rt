@@ -20,7 +20,7 @@ fn excess(a: u64, b: u64) -> u64
     if b < a { a - b } else { 0 }
 }
 
-// Half of the mirror's value at x, but for the middle.
+// Half of the mirror's value at x, which leaves the rest of the capacity, but for the middle.
 fn side(top: u64, part: u64, x: u64, rest: u64) -> u64
     requires { ⌜ part ≤ top ⌝ }
     ensures { λ r. ⌜ (r ≤ top) × ((x < rest → r ≡ part) × (rest ≤ x → r ≡ top - part)) ⌝ }
@@ -29,8 +29,8 @@ fn side(top: u64, part: u64, x: u64, rest: u64) -> u64
 }
 
 // The mirror of a function at x, from its values: top at the capacity c, and part at the lesser of
-// x and the rest, which x leaves of c. Both tests choose between numbers that are there, so that
-// the compiler needs no branch.
+// x and the rest. Both tests choose between numbers that are there, so that the compiler needs no
+// branch.
 fn mirrored(top: u64, part: u64, x: u64, rest: u64) -> u64
     requires { ⌜ (part ≤ top) × (2 * top < 2 ^ 64) ⌝ }
     ensures { λ r. ⌜ ((c : ℕ) (g : ℕ → ℕ) → x + rest ≡ c → g c ≡ top → g (min x rest) ≡ part
