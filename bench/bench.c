@@ -41,6 +41,7 @@ static size_t entries;
 static uint8_t job[WINDOWFLOOR_MOST_JOB_BYTES];
 static size_t job_bytes;
 static uint32_t sizes[WINDOWFLOOR_MOST_SIZES];
+static uint16_t counts[WINDOWFLOOR_MOST_SIZES];
 static const uint64_t low = 1, high = 4096;
 
 static struct {
@@ -91,8 +92,10 @@ static void run_one_sweep(const struct contender *who)
 {
     struct windowfloor_sweep_answer answer =
         who->parts == NULL
-            ? windowfloor_sweep(capacity, family, sizes, WINDOWFLOOR_MOST_SIZES, low, high)
-            : run_sweep(who->parts, capacity, family, sizes, WINDOWFLOOR_MOST_SIZES, low, high);
+            ? windowfloor_sweep(capacity, family, sizes, WINDOWFLOOR_MOST_SIZES, counts,
+                                WINDOWFLOOR_MOST_SIZES, low, high)
+            : run_sweep(who->parts, capacity, family, sizes, WINDOWFLOOR_MOST_SIZES, counts,
+                        WINDOWFLOOR_MOST_SIZES, low, high);
     memcpy(out.answer, &answer, sizeof answer);
 }
 
@@ -172,6 +175,18 @@ static void put_list(uint32_t of_capacity, size_t n)
     put_sizes(of_capacity, n);
 }
 
+static uint32_t draw_count(void)
+{
+    return 1 + below(WINDOWFLOOR_MOST_COUNT);
+}
+
+static void put_counts(size_t n)
+{
+    put_header(WINDOWFLOOR_TAG_COUNTS, 2 * n);
+    while (n-- > 0)
+        put(draw_count(), 2);
+}
+
 /* Rows of n coefficients in all; each right side is that of the row before, less a distance. */
 static void put_rows(size_t rows, size_t n, uint32_t right_side, uint32_t distance)
 {
@@ -218,6 +233,13 @@ static void prepare_family_job(int steps)
     put_families(steps);
 }
 
+static void prepare_counted_job(int steps)
+{
+    put_list(1000000, WINDOWFLOOR_MOST_SIZES);
+    put_counts(WINDOWFLOOR_MOST_SIZES);
+    put_families(steps);
+}
+
 /* 2,039 sizes: with them the job has 65,535 bytes. */
 static void prepare_table_job(int tables)
 {
@@ -249,13 +271,22 @@ static void prepare_table_rows(int of_rows)
     put_tables(7);
 }
 
-/* At this capacity each family has 4,096 legal p from 1 (family 4: from 2) on. */
+/* At this capacity each family has 4,096 legal p from 1 (family 4: from 2) on. Each size counts once. */
 static void prepare_sweep(int of_family)
 {
     capacity = 100003;
     family = (uint8_t)of_family;
-    for (size_t i = 0; i < WINDOWFLOOR_MOST_SIZES; i++)
+    for (size_t i = 0; i < WINDOWFLOOR_MOST_SIZES; i++) {
         sizes[i] = 1 + below((uint32_t)capacity);
+        counts[i] = 1;
+    }
+}
+
+static void prepare_counted_sweep(int of_family)
+{
+    prepare_sweep(of_family);
+    for (size_t i = 0; i < WINDOWFLOOR_MOST_SIZES; i++)
+        counts[i] = (uint16_t)draw_count();
 }
 
 /* Rows */
@@ -281,6 +312,9 @@ struct row {
      WINDOWFLOOR_OTHER_CAPACITY}
 #define SWEEP_ROW(with, name) \
     {"sweep, 4,096 p × 2,048 sizes, " name, prepare_sweep, with, run_one_sweep, "ms", 1e3, 1, 0, 0}
+#define COUNTED_SWEEP_ROW(with, name) \
+    {"sweep, 4,096 p × 2,048 sizes with counts, " name, prepare_counted_sweep, with, run_one_sweep, \
+     "ms", 1e3, 1, 0, 0}
 
 static const struct row rows[] = {
     IMAGE_ROW(1, "family 1 (threshold)"),
@@ -296,6 +330,7 @@ static const struct row rows[] = {
     JOB_ROW(prepare_family_job, 0, "2,048 sizes, no step", 0),
     JOB_ROW(prepare_family_job, 1, "2,048 sizes, 1 family step", 0),
     JOB_ROW(prepare_family_job, 8, "2,048 sizes, 8 family steps", 0),
+    JOB_ROW(prepare_counted_job, 8, "2,048 sizes with counts, 8 family steps", 1.15),
     JOB_ROW(prepare_table_job, 7, "2,039 sizes, 7 tables of 2,048 entries", 0),
     JOB_ROW(prepare_table_job, 1, "2,039 sizes, 1 table of 2,048 entries", 0),
     SHORT_TABLE_ROW(2, "2,039 sizes, 1 table of 2,048 entries, then one refused with 18", 1.3),
@@ -309,6 +344,11 @@ static const struct row rows[] = {
     SWEEP_ROW(3, "family 3"),
     SWEEP_ROW(4, "family 4"),
     SWEEP_ROW(5, "family 5"),
+    COUNTED_SWEEP_ROW(1, "family 1"),
+    COUNTED_SWEEP_ROW(2, "family 2"),
+    COUNTED_SWEEP_ROW(3, "family 3"),
+    COUNTED_SWEEP_ROW(4, "family 4"),
+    COUNTED_SWEEP_ROW(5, "family 5"),
 };
 
 /* Comparing and measuring */

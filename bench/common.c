@@ -63,7 +63,7 @@ struct step {
 struct list {
     uint64_t capacity;
     size_t n;
-    const uint8_t *sizes;
+    const uint8_t *sizes, *counts; /* no counts: NULL, and each is 1 */
 };
 
 struct contents {
@@ -79,6 +79,11 @@ static int step_in_place(const struct contents *c)
     return head_read && c->steps < WINDOWFLOOR_MOST_STEPS;
 }
 
+static int counts_in_place(const struct contents *c)
+{
+    return c->kind == WINDOWFLOOR_KIND_FLOOR && c->last_tag == WINDOWFLOOR_TAG_SIZES;
+}
+
 static int tag_in_place(const struct contents *c, uint8_t tag)
 {
     switch (tag) {
@@ -88,12 +93,14 @@ static int tag_in_place(const struct contents *c, uint8_t tag)
         return c->kind != WINDOWFLOOR_KIND_ROWS && c->last_tag == tag - 1;
     case WINDOWFLOOR_TAG_FAMILY: case WINDOWFLOOR_TAG_TABLE:
         return step_in_place(c);
+    case WINDOWFLOOR_TAG_COUNTS:
+        return counts_in_place(c);
     default:
         return tag == WINDOWFLOOR_TAG_ROW && c->kind == WINDOWFLOOR_KIND_ROWS && c->steps == 0;
     }
 }
 
-static int length_right(uint8_t tag, size_t length)
+static int length_right(const struct contents *c, uint8_t tag, size_t length)
 {
     switch (tag) {
     case WINDOWFLOOR_TAG_KIND: return length == 1;
@@ -101,13 +108,14 @@ static int length_right(uint8_t tag, size_t length)
     case WINDOWFLOOR_TAG_SIZES: return length % 4 == 0 && length <= 8192;
     case WINDOWFLOOR_TAG_FAMILY: return length == 9;
     case WINDOWFLOOR_TAG_TABLE: return length % 4 == 0 && length >= 8 && length <= 8192;
+    case WINDOWFLOOR_TAG_COUNTS: return length == 2 * c->sizes;
     default: return length % 4 == 0 && length >= 4;
     }
 }
 
 static void add_row(struct contents *c, const uint8_t *value, size_t length)
 {
-    struct list row = {word(value), length / 4 - 1, value + 4};
+    struct list row = {word(value), length / 4 - 1, value + 4, NULL};
     if (c->lists < WINDOWFLOOR_MOST_ROWS)
         c->list[c->lists] = row;
     c->lists++;
@@ -127,7 +135,11 @@ static void add_field(struct contents *c, uint8_t tag, const uint8_t *value, siz
     case WINDOWFLOOR_TAG_SIZES:
         c->lists = 1;
         c->list[0].sizes = value;
+        c->list[0].counts = NULL;
         c->list[0].n = c->sizes = length / 4;
+        break;
+    case WINDOWFLOOR_TAG_COUNTS:
+        c->list[0].counts = value;
         break;
     case WINDOWFLOOR_TAG_ROW:
         add_row(c, value, length);
@@ -161,7 +173,7 @@ static uint64_t read_fields(const uint8_t *job, size_t bytes, struct contents *c
             return WINDOWFLOOR_PAST_THE_END;
         if (!tag_in_place(c, job[at]))
             return WINDOWFLOOR_BAD_TAG;
-        if (!length_right(job[at], length))
+        if (!length_right(c, job[at], length))
             return WINDOWFLOOR_BAD_LENGTH;
         add_field(c, job[at], job + at + 3, length);
         at += 3 + length;
@@ -177,6 +189,14 @@ struct chain {
     uint32_t *images;
 };
 
+static int any_count_0(const struct list *list)
+{
+    int found = 0;
+    for (size_t i = 0; list->counts != NULL && i < list->n; i++)
+        found |= halfword(list->counts + 2 * i) == 0;
+    return found;
+}
+
 static uint64_t start_chain(const struct list *list, uint32_t least, struct chain *chain)
 {
     if (list->capacity < 1 || list->capacity > LIMIT)
@@ -187,7 +207,7 @@ static uint64_t start_chain(const struct list *list, uint32_t least, struct chai
     for (size_t i = 0; i < chain->n; i++)
         if (chain->images[i] < least || chain->images[i] > chain->scale)
             return WINDOWFLOOR_BAD_SIZE;
-    return 0;
+    return any_count_0(list) ? WINDOWFLOOR_COUNT_0 : 0;
 }
 
 static uint64_t family_step(const struct parts *parts, const struct step *step, struct chain *chain)
@@ -251,13 +271,26 @@ static void run_steps(const struct parts *parts, const struct contents *c, int f
     }
 }
 
-static void accept(uint8_t kind, const struct chain *chain, struct windowfloor_job_answer *answer)
+/* A loop of its own for each, so that neither asks for counts. */
+static uint64_t weighted_sum(const uint8_t *counts, const struct chain *chain)
+{
+    uint64_t sum = 0;
+    if (counts == NULL)
+        for (size_t i = 0; i < chain->n; i++)
+            sum += chain->images[i];
+    else
+        for (size_t i = 0; i < chain->n; i++)
+            sum += (uint64_t)halfword(counts + 2 * i) * chain->images[i];
+    return sum;
+}
+
+static void accept(const struct contents *c, const struct chain *chain,
+                   struct windowfloor_job_answer *answer)
 {
     answer->scale = chain->scale;
-    if (kind == WINDOWFLOOR_KIND_CUT)
+    if (c->kind == WINDOWFLOOR_KIND_CUT)
         return;
-    for (size_t i = 0; i < chain->n; i++)
-        answer->sum += chain->images[i];
+    answer->sum = weighted_sum(c->list[0].counts, chain);
     answer->floor = round_up(answer->sum, answer->scale);
 }
 
@@ -282,7 +315,7 @@ static void run_lists(const struct parts *parts, const struct contents *c, uint3
     if (rows)
         memcpy(scales, reached, c->lists * sizeof *scales);
     else
-        accept(c->kind, &chain, answer);
+        accept(c, &chain, answer);
 }
 
 struct windowfloor_job_answer run_job(const struct parts *parts, const uint8_t *job, size_t bytes,
@@ -308,17 +341,21 @@ struct windowfloor_job_answer run_job(const struct parts *parts, const uint8_t *
 /* Sweep */
 
 static uint64_t judge_sweep(uint64_t capacity, uint8_t family, const uint32_t *sizes, size_t n,
-                            uint64_t low, uint64_t high)
+                            const uint16_t *counts, size_t counts_length, uint64_t low,
+                            uint64_t high)
 {
     if (capacity < 1 || capacity > LIMIT)
         return WINDOWFLOOR_BAD_CAPACITY;
     if (family < 1 || family > WINDOWFLOOR_SWEEP_FAMILIES)
         return WINDOWFLOOR_BAD_FAMILY;
-    if (n > WINDOWFLOOR_MOST_SIZES)
+    if (n > WINDOWFLOOR_MOST_SIZES || counts_length != n)
         return WINDOWFLOOR_BAD_COUNT;
     for (size_t i = 0; i < n; i++)
         if (sizes[i] == 0 || sizes[i] > capacity)
             return WINDOWFLOOR_BAD_SIZE;
+    for (size_t i = 0; i < n; i++)
+        if (counts[i] == 0)
+            return WINDOWFLOOR_COUNT_0;
     if (low > high || high - low > WINDOWFLOOR_MOST_SPAN)
         return WINDOWFLOOR_BAD_RANGE;
     return 0;
@@ -326,10 +363,11 @@ static uint64_t judge_sweep(uint64_t capacity, uint8_t family, const uint32_t *s
 
 struct windowfloor_sweep_answer run_sweep(const struct parts *parts, uint64_t capacity,
                                           uint8_t family, const uint32_t *sizes, size_t n,
+                                          const uint16_t *counts, size_t counts_length,
                                           uint64_t low, uint64_t high)
 {
     struct windowfloor_sweep_answer answer = {0, 0, 0};
-    answer.number = judge_sweep(capacity, family, sizes, n, low, high);
+    answer.number = judge_sweep(capacity, family, sizes, n, counts, counts_length, low, high);
     if (answer.number != 0)
         return answer;
     answer.number = WINDOWFLOOR_NO_LEGAL_P;
@@ -337,7 +375,8 @@ struct windowfloor_sweep_answer run_sweep(const struct parts *parts, uint64_t ca
         uint64_t p = low + i, scale;
         if (judge_family(capacity, family, p, 0, &scale) != 0)
             continue;
-        uint64_t floor = round_up(parts->sum_of_images(capacity, family, p, sizes, n), scale);
+        uint64_t sum = parts->sum_of_images(capacity, family, p, sizes, counts, n);
+        uint64_t floor = round_up(sum, scale);
         if (answer.number != 0 || floor > answer.floor) {
             answer.number = 0;
             answer.floor = floor;

@@ -65,6 +65,12 @@ static inline void decode(const uint8_t *bytes, uint32_t *out, size_t n)
         out[i] = word(bytes + 4 * i);
 }
 
+/* A count of a job: two bytes. */
+static inline uint16_t halfword(const uint8_t *at)
+{
+    return (uint16_t)(at[0] << 8 | at[1]);
+}
+
 /* Where plain and tuned C differ. */
 typedef struct windowfloor_image_answer image_function(uint64_t capacity, uint8_t family, uint64_t p,
                                                        uint64_t q, uint64_t x);
@@ -77,8 +83,9 @@ struct parts {
                        size_t n);
     /* by a table that an earlier row has had checked; its entries as they lie in the job */
     void (*map_table)(const uint8_t *table, size_t entries, uint32_t *list, size_t n);
+    /* of count times image */
     uint64_t (*sum_of_images)(uint64_t capacity, uint8_t family, uint64_t p, const uint32_t *sizes,
-                              size_t n);
+                              const uint16_t *counts, size_t n);
 };
 
 extern const struct parts plain_parts, tuned_parts;
@@ -97,6 +104,7 @@ struct windowfloor_job_answer run_job(const struct parts *parts, const uint8_t *
 
 struct windowfloor_sweep_answer run_sweep(const struct parts *parts, uint64_t capacity,
                                           uint8_t family, const uint32_t *sizes, size_t n,
+                                          const uint16_t *counts, size_t counts_length,
                                           uint64_t low, uint64_t high);
 
 #endif

@@ -118,11 +118,11 @@ static void map_table(const uint8_t *table, size_t entries, uint32_t *list, size
 }
 
 static uint64_t sum_of_images(uint64_t capacity, uint8_t family, uint64_t p, const uint32_t *sizes,
-                              size_t n)
+                              const uint16_t *counts, size_t n)
 {
     uint64_t sum = 0;
     for (size_t i = 0; i < n; i++)
-        sum += image_of(capacity, family, p, 0, sizes[i]);
+        sum += counts[i] * image_of(capacity, family, p, 0, sizes[i]);
     return sum;
 }
 

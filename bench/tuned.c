@@ -28,10 +28,12 @@ static inline uint64_t mirrored(const struct prepared *s, uint64_t part, uint64_
     return 2 * x == s->capacity ? s->top : image;
 }
 
+/* All are below 2^31 and compared as signed numbers: any x86-64 has vectors for these comparisons alone. */
 static inline uint64_t threshold(const struct prepared *s, uint32_t x)
 {
-    uint32_t kept = x < s->p ? 0 : x;
-    return x > s->capacity - s->p ? s->capacity : kept;
+    int32_t size = (int32_t)x, least = (int32_t)s->p, most = (int32_t)(s->capacity - s->p);
+    uint32_t kept = size < least ? 0 : x;
+    return size > most ? s->capacity : kept;
 }
 
 static inline uint64_t rounding(const struct prepared *s, uint32_t x)
@@ -118,13 +120,13 @@ static void map_table(const uint8_t *table, size_t entries, uint32_t *list, size
 }
 
 static uint64_t sum_of_images(uint64_t capacity, uint8_t family, uint64_t p, const uint32_t *sizes,
-                              size_t n)
+                              const uint16_t *counts, size_t n)
 {
     const struct prepared s = prepare(capacity, family, p, 0);
     uint64_t sum = 0;
 #define ADD(k, formula)            \
     for (size_t i = 0; i < n; i++) \
-        sum += formula(&s, sizes[i]);
+        sum += counts[i] * formula(&s, sizes[i]);
     FOR_FAMILY(family, ADD)
 #undef ADD
     return sum;

@@ -1,8 +1,8 @@
 /* The best floor for a list of sizes, and the cut that the same step makes of them as a row; or the cuts
  * that the steps given make of all rows of a model, in one job.
  *
- *     planner CAPACITY SIZE...
- *     planner FILE                            the same numbers, in a file
+ *     planner CAPACITY SIZE[xCOUNT]...        5x300 is a size of 5 with 300 copies; without a count, one
+ *     planner FILE                            the same words, in a file
  *     planner --rows FILE [FAMILY P Q]...     each line of the file is a row: right side, coefficients
  *
  * Exit status: 1 if the library refuses, 2 if the numbers cannot be read or the answer not written.
@@ -25,6 +25,7 @@ struct list {
     uint64_t capacity;
     size_t n;
     uint32_t sizes[WINDOWFLOOR_MOST_SIZES];
+    uint16_t counts[WINDOWFLOOR_MOST_SIZES];
 };
 
 struct step {
@@ -58,15 +59,21 @@ static void stop_if_refused(const char *operation, uint64_t number, uint64_t row
     exit(1);
 }
 
-/* Reading numbers: words of digits alone, in a file or as arguments. The first word that is wrong
- * ends the program, which tells its place. */
+/* Reading numbers: words of digits alone, in a file or as arguments; a size may have an x and a count
+ * behind it. The first word that is wrong ends the program, which tells its place. */
 
 enum { SHOWN = 20 }; /* characters of a wrong word that are shown */
 
+struct digits {
+    size_t length;
+    int too_large; /* for 64 bits */
+    uint64_t value;
+};
+
 struct word {
     size_t length;
-    int all_digits, too_large;
-    uint64_t number;
+    int has_x, all_digits;       /* all but one x */
+    struct digits number, count; /* before the x, and behind it */
     unsigned char start[SHOWN];
 };
 
@@ -102,10 +109,20 @@ static void stop_at_word(const struct place *place, const char *why, const struc
 
 static void start_word(struct word *word)
 {
+    static const struct digits none = {0, 0, 0};
     word->length = 0;
+    word->has_x = 0;
     word->all_digits = 1;
-    word->too_large = 0;
-    word->number = 0;
+    word->number = word->count = none;
+}
+
+static void add_digit(struct digits *digits, uint64_t digit)
+{
+    digits->length++;
+    if (digits->value > (UINT64_MAX - digit) / 10)
+        digits->too_large = 1;
+    else
+        digits->value = 10 * digits->value + digit;
 }
 
 static void add_character(struct word *word, unsigned char c)
@@ -113,34 +130,35 @@ static void add_character(struct word *word, unsigned char c)
     if (word->length < SHOWN)
         word->start[word->length] = c;
     word->length++;
-    if (!isdigit(c)) {
-        word->all_digits = 0;
-        return;
-    }
-    uint64_t digit = (uint64_t)(c - '0');
-    if (word->number > (UINT64_MAX - digit) / 10)
-        word->too_large = 1;
+    if (isdigit(c))
+        add_digit(word->has_x ? &word->count : &word->number, (uint64_t)(c - '0'));
+    else if (c == 'x' && !word->has_x)
+        word->has_x = 1;
     else
-        word->number = 10 * word->number + digit;
+        word->all_digits = 0;
 }
 
-/* Why the word is no number; NULL if it is one. */
-static const char *fault_of(const struct word *word)
+/* Why the word is no number, nor a number with a count where it may have one; NULL if it is. */
+static const char *fault_of(const struct word *word, int may_have_count)
 {
     if (word->length > 0 && (word->start[0] == '-' || word->start[0] == '+'))
         return "starts with a sign";
-    if (word->length == 0 || !word->all_digits)
+    if (!word->all_digits || word->number.length == 0)
         return "not a number";
-    return word->too_large ? "a number of more than 64 bits" : NULL;
+    if (word->has_x && (!may_have_count || word->count.length == 0))
+        return "not a number";
+    return word->number.too_large ? "a number of more than 64 bits" : NULL;
 }
 
-/* Why it is none of the list. */
+/* Why it is none of the sizes of the list. A count of 0 is for the library to refuse, like a size of 0. */
 static const char *fault_in_list(const struct word *word, const struct list *list)
 {
-    if (list->has_capacity && list->n == WINDOWFLOOR_MOST_SIZES)
+    if (list->n == WINDOWFLOOR_MOST_SIZES)
         return "more sizes than a job can have";
-    if (list->has_capacity && word->number > UINT32_MAX)
+    if (word->number.value > UINT32_MAX)
         return "a size of more than 32 bits";
+    if (word->count.too_large || word->count.value > WINDOWFLOOR_MOST_COUNT)
+        return "a count of more than 16 bits";
     return NULL;
 }
 
@@ -151,7 +169,7 @@ static const char *fault_in_row(const struct word *word, const struct model *mod
         return "more rows than a job can have";
     if (!starts_row && model->n == WINDOWFLOOR_MOST_SIZES)
         return "more coefficients than a job can have";
-    return word->number > UINT32_MAX ? "a number of more than 32 bits" : NULL;
+    return word->number.value > UINT32_MAX ? "a number of more than 32 bits" : NULL;
 }
 
 static void stop_if(const char *fault, const struct place *place, const struct word *word)
@@ -160,14 +178,21 @@ static void stop_if(const char *fault, const struct place *place, const struct w
         stop_at_word(place, fault, word);
 }
 
+static void add_size(struct list *list, const struct word *word, const struct place *place)
+{
+    stop_if(fault_in_list(word, list), place, word);
+    list->sizes[list->n] = (uint32_t)word->number.value;
+    list->counts[list->n] = word->has_x ? (uint16_t)word->count.value : 1;
+    list->n++;
+}
+
 static void add_word(struct list *list, const struct word *word, const struct place *place)
 {
-    stop_if(fault_of(word), place, word);
-    stop_if(fault_in_list(word, list), place, word);
+    stop_if(fault_of(word, list->has_capacity), place, word);
     if (list->has_capacity) {
-        list->sizes[list->n++] = (uint32_t)word->number;
+        add_size(list, word, place);
     } else {
-        list->capacity = word->number;
+        list->capacity = word->number.value;
         list->has_capacity = 1;
     }
 }
@@ -176,13 +201,13 @@ static void add_word(struct list *list, const struct word *word, const struct pl
 static void add_to_model(struct model *model, const struct word *word, const struct place *place,
                          int starts_row)
 {
-    stop_if(fault_of(word), place, word);
+    stop_if(fault_of(word, 0), place, word);
     stop_if(fault_in_row(word, model, starts_row), place, word);
     if (starts_row) {
-        struct row row = {(uint32_t)word->number, model->n, 0};
+        struct row row = {(uint32_t)word->number.value, model->n, 0};
         model->row[model->rows++] = row;
     } else {
-        model->coefficients[model->n++] = (uint32_t)word->number;
+        model->coefficients[model->n++] = (uint32_t)word->number.value;
         model->row[model->rows - 1].n++;
     }
 }
@@ -248,7 +273,7 @@ static struct word word_of(const char *argument)
 
 static void stop_with_usage(void)
 {
-    fprintf(stderr, "planner: usage: planner CAPACITY SIZE... | planner FILE"
+    fprintf(stderr, "planner: usage: planner CAPACITY SIZE[xCOUNT]... | planner FILE"
                     " | planner --rows FILE [FAMILY P Q]...\n");
     exit(2);
 }
@@ -271,10 +296,10 @@ static uint32_t step_number(char **argv, int i, uint32_t most)
 {
     struct place place = {NULL, (unsigned long)i};
     struct word word = word_of(argv[i]);
-    stop_if(fault_of(&word), &place, &word);
-    if (word.number > most)
+    stop_if(fault_of(&word, 0), &place, &word);
+    if (word.number.value > most)
         stop_at_word(&place, "a number too large for a step", &word);
-    return (uint32_t)word.number;
+    return (uint32_t)word.number.value;
 }
 
 static void read_model(struct model *model, int argc, char **argv)
@@ -332,6 +357,22 @@ static void start_job(struct job *job, uint8_t kind)
     put(job, kind, 1);
 }
 
+static int has_counts(const struct list *list)
+{
+    for (size_t i = 0; i < list->n; i++)
+        if (list->counts[i] != 1)
+            return 1;
+    return 0;
+}
+
+static void put_counts(struct job *job, const struct list *list)
+{
+    put_header(job, WINDOWFLOOR_TAG_COUNTS, 2 * list->n);
+    for (size_t i = 0; i < list->n; i++)
+        put(job, list->counts[i], 2);
+}
+
+/* Counts are for floors: a cut is of the row of sizes, whatever their counts. */
 static void write_list(struct job *job, uint8_t kind, const struct list *list, struct step step)
 {
     start_job(job, kind);
@@ -339,6 +380,8 @@ static void write_list(struct job *job, uint8_t kind, const struct list *list, s
     put(job, list->capacity, 4);
     put_header(job, WINDOWFLOOR_TAG_SIZES, 4 * list->n);
     put_list(job, list->sizes, list->n);
+    if (kind == WINDOWFLOOR_KIND_FLOOR && has_counts(list))
+        put_counts(job, list);
     if (step.family != 0)
         put_step(job, step);
 }
@@ -401,7 +444,8 @@ static struct swept sweep_family(const struct list *list, uint8_t family)
     for (int range = 0; range < MOST_RANGES; range++) {
         uint64_t low = swept.tried + 1, high = low + WINDOWFLOOR_MOST_SPAN;
         struct windowfloor_sweep_answer answer =
-            windowfloor_sweep(list->capacity, family, list->sizes, list->n, low, high);
+            windowfloor_sweep(list->capacity, family, list->sizes, list->n, list->counts, list->n, low,
+                              high);
         if (answer.number == WINDOWFLOOR_NO_LEGAL_P)
             break;
         stop_if_refused("sweep", answer.number, 0, 0);
@@ -468,6 +512,26 @@ static void print_half(const struct list *list, struct step step)
            "\n", half, answer.image, answer.scale);
 }
 
+/* As they can be read again. */
+static void print_sizes(const struct list *list)
+{
+    for (size_t i = 0; i < list->n; i++) {
+        printf(" %" PRIu32, list->sizes[i]);
+        if (list->counts[i] != 1)
+            printf("x%" PRIu16, list->counts[i]);
+    }
+}
+
+static void print_list(const struct list *list)
+{
+    printf("capacity %" PRIu64 ", %zu sizes", list->capacity, list->n);
+    if (has_counts(list)) {
+        printf(":");
+        print_sizes(list);
+    }
+    printf("\n");
+}
+
 static void plan_list(const struct list *list)
 {
     static uint32_t images[WINDOWFLOOR_JOB_IMAGES];
@@ -475,7 +539,7 @@ static void plan_list(const struct list *list)
     if (list->capacity > UINT32_MAX)
         stop_if_refused("job", WINDOWFLOOR_BAD_CAPACITY, 0, 0); /* a job has four bytes for it */
     uint64_t without = run_list(WINDOWFLOOR_KIND_FLOOR, list, none, images).floor;
-    printf("capacity %" PRIu64 ", %zu sizes\n", list->capacity, list->n);
+    print_list(list);
     printf("  %-19s           floor %" PRIu64 "\n", families[0], without);
     struct step best = best_step(list, without);
     print_best(best);

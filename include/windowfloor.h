@@ -20,7 +20,7 @@ extern "C" {
 #endif
 
 /* The version of this header and of the library: CHANGELOG.md says what came with it. */
-#define WINDOWFLOOR_VERSION "2.1.1"
+#define WINDOWFLOOR_VERSION "3.0.0"
 
 /* Limits: unsigned constants. */
 #define WINDOWFLOOR_LIMIT 1000000000u     /* the greatest capacity, parameter, scale and table entry */
@@ -28,6 +28,7 @@ extern "C" {
 #define WINDOWFLOOR_SWEEP_FAMILIES 5u     /* those without q, 1 to 5, can be swept */
 #define WINDOWFLOOR_MOST_ENTRIES 2048u    /* entries of a table; its capacity is one less */
 #define WINDOWFLOOR_MOST_SIZES 2048u      /* sizes of a job or of a sweep, coefficients of all rows */
+#define WINDOWFLOOR_MOST_COUNT 65535u     /* copies of a size; the least is 1 */
 #define WINDOWFLOOR_MOST_ROWS 64u         /* rows of a job of kind 3 */
 #define WINDOWFLOOR_MOST_STEPS 8u         /* steps of a job */
 #define WINDOWFLOOR_MOST_JOB_BYTES 65535u /* bytes of a job */
@@ -38,8 +39,8 @@ extern "C" {
 #define WINDOWFLOOR_JOB_SCALES 64u        /* least places of a job's buffer for scales */
 
 /* The bytes of a job: fields of a tag, a two-byte length and a value. Tags 1, 2, 3 once each in this
- * order, then 0 to 8 steps; in kind 3 tag 1, then 1 to 64 rows (tag 6), then the steps. Numbers are
- * unsigned, high byte first. */
+ * order, in kind 1 a tag 7 right behind them or none, then 0 to 8 steps; in kind 3 tag 1, then 1 to 64 rows
+ * (tag 6), then the steps. Numbers are unsigned, high byte first. */
 enum {
     WINDOWFLOOR_TAG_KIND = 1,     /* length 1: one of the kinds below */
     WINDOWFLOOR_TAG_CAPACITY = 2, /* length 4 */
@@ -47,6 +48,7 @@ enum {
     WINDOWFLOOR_TAG_FAMILY = 4,   /* length 9: a step: family byte, p, q */
     WINDOWFLOOR_TAG_TABLE = 5,    /* length 8 to 8,192, a multiple of 4: a step: its entries */
     WINDOWFLOOR_TAG_ROW = 6,      /* length 4 or more, a multiple of 4: right side, coefficients */
+    WINDOWFLOOR_TAG_COUNTS = 7,   /* length 2n, n as in tag 3: counts of the sizes; without it each is 1 */
 
     WINDOWFLOOR_KIND_FLOOR = 1,
     WINDOWFLOOR_KIND_CUT = 2,
@@ -62,7 +64,7 @@ enum {
     WINDOWFLOOR_BAD_PARAMETER = 3,
     WINDOWFLOOR_SCALE_TOO_LARGE = 4,
     WINDOWFLOOR_SIZE_OVER_CAPACITY = 5,
-    WINDOWFLOOR_BAD_COUNT = 6, /* of a table's entries, or of a sweep's sizes */
+    WINDOWFLOOR_BAD_COUNT = 6, /* of a table's entries, or of a sweep's sizes or counts */
     WINDOWFLOOR_SHORT_BUFFER = 7,
     WINDOWFLOOR_FIRST_ENTRY_NOT_0 = 8,
     WINDOWFLOOR_LAST_ENTRY_0 = 9,
@@ -77,9 +79,10 @@ enum {
     WINDOWFLOOR_OTHER_CAPACITY = 18,
     WINDOWFLOOR_BAD_RANGE = 19,
     WINDOWFLOOR_NO_LEGAL_P = 20,
-    WINDOWFLOOR_BAD_ROWS = 21 /* of kind 3: none, too many, or too many coefficients in all */
+    WINDOWFLOOR_BAD_ROWS = 21, /* of kind 3: none, too many, or too many coefficients in all */
+    WINDOWFLOOR_COUNT_0 = 22
 };
-#define WINDOWFLOOR_LAST_REFUSAL 21u /* the greatest of them */
+#define WINDOWFLOOR_LAST_REFUSAL 22u /* the greatest of them */
 
 /* A number of refusal in words, for messages; defined for every number. */
 static inline const char *windowfloor_refusal_text(uint64_t number)
@@ -91,7 +94,7 @@ static inline const char *windowfloor_refusal_text(uint64_t number)
         "p or q is not legal for the family",
         "the scale would pass the limit",
         "the size is over the capacity",
-        "a table has too few or too many entries, or a sweep too many sizes",
+        "a table has too few or too many entries, or a sweep too many sizes or not as many counts",
         "a lent buffer is too short",
         "the table's first entry is not 0",
         "the table's last entry is 0",
@@ -106,7 +109,8 @@ static inline const char *windowfloor_refusal_text(uint64_t number)
         "a table step is of another capacity than the present one",
         "the range of p is empty or too wide",
         "no p of the range is legal with a scale within the limit",
-        "a job of rows has no row, too many rows, or too many coefficients"
+        "a job of rows has no row, too many rows, or too many coefficients",
+        "a count is 0"
     };
     return number < sizeof texts / sizeof *texts ? texts[number] : "unknown number of refusal";
 }
@@ -137,19 +141,21 @@ struct windowfloor_table_answer windowfloor_table_check(const uint32_t *table, s
                                                         uint32_t *list, size_t list_places);
 
 /* A job: the sizes taken through its steps, for a floor or a cut; in kind 3 each row's coefficients, for a
- * cut of each row. The buffers have at least the places named above, whatever the kind.
- * Refusals, in order: 12, 7; for each field 13, 14, 15; then 16, 21; then 1, 17; then for each step 2, 3, 4
- * of a family, or 18, 8, 9, 10, 11 of a table. In kind 3 all from 1 on is asked of row 1, then of row 2,
- * and so on.
- * Accepted: the first n places of `images` hold the images, those of a row behind those of the row
- * before. In kind 3 the first places of `scales`, one for each row, hold the right sides of the cuts. A
- * refusal leaves `images` and `scales` as they were, and kinds 1 and 2 leave `scales`. `list` is written
- * for 11 alone, as in the table check. Afterwards `working` may hold anything. */
+ * cut of each row. In kind 1 each size stands for as many copies as its count says. The buffers have at
+ * least the places named above, whatever the kind.
+ * Refusals, in order: 12, 7; for each field 13, 14, 15; then 16, 21; then 1, 17, 22; then for each step 2,
+ * 3, 4 of a family, or 18, 8, 9, 10, 11 of a table. In kind 3 all from 1 on is asked of row 1, then of row
+ * 2, and so on.
+ * Accepted: the first n places of `images` hold the images, one for each size whatever its count, those of
+ * a row behind those of the row before. In kind 3 the first places of `scales`, one for each row, hold the
+ * right sides of the cuts. A refusal leaves `images` and `scales` as they were, and kinds 1 and 2 leave
+ * `scales`. `list` is written for 11 alone, as in the table check. Afterwards `working` may hold
+ * anything. */
 struct windowfloor_job_answer {
     uint64_t number;
     uint64_t n;      /* the number of sizes, or of the coefficients of all rows */
-    uint64_t floor;  /* no assignment of the sizes uses fewer windows; 0 for cuts */
-    uint64_t sum;    /* the sum of the images; 0 for cuts */
+    uint64_t floor;  /* no assignment of the copies uses fewer windows; 0 for cuts */
+    uint64_t sum;    /* the sum of count times image; 0 for cuts */
     uint64_t scale;  /* the right side of a cut whose coefficients are the images; 0 in kind 3 */
     uint64_t step;   /* the place, 1 to 8, of the step that is refused */
     uint64_t length; /* at 11, the number of sizes in `list` */
@@ -163,8 +169,9 @@ struct windowfloor_job_answer windowfloor_job(const uint8_t *job, size_t bytes,
                                               uint32_t *scales, size_t scales_places);
 
 /* The largest floor that one step of a family (1 to 5) gives, over all p from low to high that are
- * legal with a scale within the limit, and the least p that gives it.
- * Refusals, in order: 1, 2, 6, 17, 19, 20. */
+ * legal with a scale within the limit, and the least p that gives it. `counts` has one count for each size,
+ * so counts_length is n; a caller without counts passes ones.
+ * Refusals, in order: 1, 2, 6, 17, 22, 19, 20. */
 struct windowfloor_sweep_answer {
     uint64_t number;
     uint64_t floor;
@@ -173,6 +180,7 @@ struct windowfloor_sweep_answer {
 
 struct windowfloor_sweep_answer windowfloor_sweep(uint64_t capacity, uint8_t family,
                                                   const uint32_t *sizes, size_t n,
+                                                  const uint16_t *counts, size_t counts_length,
                                                   uint64_t low, uint64_t high);
 
 #ifdef __cplusplus

@@ -1,6 +1,6 @@
 /* Compares the library with the reference on random inputs, on the largest, and on jobs with fields of
- * many lengths: every field of the answers, every place of the buffers, and the places before and behind
- * them.
+ * many lengths and with counts in many places: every field of the answers, every place of the buffers, and
+ * the places before and behind them.
  *
  *     compare [SEED [ROUNDS]]
  *
@@ -17,17 +17,24 @@
 
 enum { DEFAULT_SEED = 1, DEFAULT_ROUNDS = 50000 };
 enum { NUMBERS = WINDOWFLOOR_LAST_REFUSAL + 1, STEPS = WINDOWFLOOR_MOST_STEPS + 1 };
+enum { MOST_PRINTED = 16384 }; /* bytes of an input: all of a sweep */
 
 /* Jobs whose fourth byte is 3 are counted as rows; numbers that name a row are counted once more. For 18,
- * which goes before 8 to 11, what the table check says of the table is counted, for each kind. */
+ * which goes before 8 to 11, what the table check says of the table is counted, for each kind. Refusals for
+ * a field of tag 7 are counted for each kind. Jobs with counts are counted once more, and so are jobs and
+ * sweeps with a count of 0. For 22, and for 6 where there are not as many counts as sizes, what the same
+ * input would give with ones is counted. */
 enum tally {
     IMAGE, TABLE, JOB, ROWS, SWEEP, OPERATIONS,
-    ROW_1 = OPERATIONS, LATER_ROW, BEHIND_18, LAST_BEHIND_18 = BEHIND_18 + 2, TALLIES
+    ROW_1 = OPERATIONS, LATER_ROW, BEHIND_18, LAST_BEHIND_18 = BEHIND_18 + 2,
+    AT_TAG_7, LAST_AT_TAG_7 = AT_TAG_7 + 3, COUNTED_JOB, COUNT_0_IN_JOB, COUNT_0_IN_SWEEP,
+    BEHIND_22_OF_JOB, BEHIND_22_OF_SWEEP, FEWER_COUNTS, MORE_COUNTS, TALLIES
 };
 
 static const char *const names[TALLIES] = {
     "image", "table check", "job", "job of rows", "sweep", "  in row 1", "  later row",
-    "  floor", "  cut", "  rows",
+    "  floor", "  cut", "  rows", "  floor", "  cut", "  rows", "  no kind", "  all", "  job", "  sweep",
+    "  job", "  sweep", "  fewer", "  more",
 };
 
 /* Accepted jobs: those of several rows by what the steps make of the right sides. */
@@ -47,18 +54,27 @@ static const char *const quotient_names[QUOTIENTS] = {
 };
 static const char *const remainder_names[REMAINDERS] = {"0", "1", "divisor less 1", "another"};
 
+/* Accepted jobs with counts, and sweeps. One can be of several sorts. */
+enum sort { NO_SIZE, ALL_1, OVER_255, COUNT_65535, SUM_OVER_32_BITS, GREATEST_SUM, SORTS };
+
+static const char *const sort_names[SORTS] = {
+    "no size", "all 1", "over 255", "65,535", "sum over 32 bits", "greatest sum",
+};
+
 /* What was seen: how often each number came from each operation, and from how many steps a job, or a job
  * of rows, got through, or at which it was refused. */
 static unsigned long seen[TALLIES][NUMBERS];
 static unsigned long accepted_steps[2][STEPS], refused_step[2][STEPS];
 static unsigned long accepted_shapes[SHAPES];
 static unsigned long rounded[QUOTIENTS][REMAINDERS];
+static unsigned long counted[2][SORTS]; /* jobs, sweeps */
 
-/* Inputs lie right before memory that cannot be read, so that a read past their end is a crash. */
+/* Inputs lie right before memory that cannot be read, so that a read past their end is a crash. Two edges
+ * are for the two inputs of a sweep. */
 
-static uint8_t *edge;
+static uint8_t *first_edge, *second_edge;
 
-static void make_edge(void)
+static uint8_t *new_edge(void)
 {
     uint8_t *memory = mmap(NULL, 2 * ROOM_BYTES, PROT_READ | PROT_WRITE,
                            MAP_PRIVATE | MAP_ANONYMOUS, -1, 0);
@@ -66,10 +82,10 @@ static void make_edge(void)
         perror("compare: memory");
         exit(2);
     }
-    edge = memory + ROOM_BYTES;
+    return memory + ROOM_BYTES;
 }
 
-static void *at_edge(const void *input, size_t bytes)
+static void *at_edge(uint8_t *edge, const void *input, size_t bytes)
 {
     return memcpy(edge - bytes, input, bytes);
 }
@@ -142,7 +158,7 @@ static void print_answer(const char *who, const uint64_t *answer, size_t fields)
 static void print_bytes(const void *input, size_t bytes)
 {
     printf("input, %zu bytes:", bytes);
-    for (size_t i = 0; i < bytes && i < 4096; i++)
+    for (size_t i = 0; i < bytes && i < MOST_PRINTED; i++)
         printf(" %02x", ((const uint8_t *)input)[i]);
     printf("\n");
 }
@@ -213,7 +229,7 @@ static void compare_table(void)
     static struct lent working, list;
     random_table(&in);
     size_t bytes = in.count * sizeof *in.entries;
-    const uint32_t *table = at_edge(in.entries, bytes);
+    const uint32_t *table = at_edge(first_edge, in.entries, bytes);
     lend(&working, sizeof(uint64_t), in.working_places);
     lend(&list, sizeof(uint32_t), in.list_places);
     struct windowfloor_table_answer library =
@@ -290,6 +306,95 @@ static void count_shape(const struct job_input *in, const uint32_t *scales)
     accepted_shapes[MOST_ROWS] += rows == WINDOWFLOOR_MOST_ROWS;
 }
 
+/* Where the counts of a job start whose fields are in order; 0 if it has none. */
+static size_t counts_at(const struct job_input *in)
+{
+    for (size_t at = 0; at < in->length; at += 3 + value_bytes(in, at))
+        if (in->bytes[at] == WINDOWFLOOR_TAG_COUNTS)
+            return at;
+    return 0;
+}
+
+static size_t read_counts(const struct job_input *in, size_t at, uint16_t *counts)
+{
+    size_t n = value_bytes(in, at) / 2;
+    for (size_t i = 0; i < n; i++)
+        counts[i] = (uint16_t)(in->bytes[at + 3 + 2 * i] * 256 + in->bytes[at + 4 + 2 * i]);
+    return n;
+}
+
+static int some_count(const uint16_t *counts, size_t n, uint16_t least, uint16_t most)
+{
+    for (size_t i = 0; i < n; i++)
+        if (counts[i] >= least && counts[i] <= most)
+            return 1;
+    return 0;
+}
+
+static void count_sorts(unsigned long *sorts, const uint16_t *counts, size_t n, uint64_t sum)
+{
+    sorts[NO_SIZE] += n == 0;
+    sorts[ALL_1] += n > 0 && !some_count(counts, n, 2, WINDOWFLOOR_MOST_COUNT);
+    sorts[OVER_255] += some_count(counts, n, 256, WINDOWFLOOR_MOST_COUNT);
+    sorts[COUNT_65535] += some_count(counts, n, WINDOWFLOOR_MOST_COUNT, WINDOWFLOOR_MOST_COUNT);
+    sorts[SUM_OVER_32_BITS] += sum > UINT32_MAX;
+    sorts[GREATEST_SUM] +=
+        sum == (uint64_t)WINDOWFLOOR_MOST_SIZES * WINDOWFLOOR_MOST_COUNT * WINDOWFLOOR_LIMIT;
+}
+
+/* What the job's number would be if each of its counts were 1. */
+static uint64_t job_with_ones(const struct job_input *in, size_t at)
+{
+    static uint8_t bytes[ROOM_BYTES];
+    static uint64_t working[WINDOWFLOOR_JOB_WORKING];
+    static uint32_t images[WINDOWFLOOR_JOB_IMAGES], list[WINDOWFLOOR_JOB_LIST],
+        scales[WINDOWFLOOR_JOB_SCALES];
+    memcpy(bytes, in->bytes, in->length);
+    for (size_t i = 0; i < value_bytes(in, at); i++)
+        bytes[at + 3 + i] = i % 2;
+    return reference_job(bytes, in->length, images, WINDOWFLOOR_JOB_IMAGES, working,
+                         WINDOWFLOOR_JOB_WORKING, list, WINDOWFLOOR_JOB_LIST, scales,
+                         WINDOWFLOOR_JOB_SCALES).number;
+}
+
+static void count_counted(const struct job_input *in, const struct windowfloor_job_answer *answer)
+{
+    static uint16_t counts[WINDOWFLOOR_MOST_SIZES];
+    size_t at = counts_at(in);
+    if (at == 0)
+        return;
+    size_t n = read_counts(in, at, counts);
+    seen[COUNTED_JOB][answer->number]++;
+    if (some_count(counts, n, 0, 0))
+        seen[COUNT_0_IN_JOB][answer->number]++;
+    if (answer->number == WINDOWFLOOR_COUNT_0)
+        seen[BEHIND_22_OF_JOB][job_with_ones(in, at)]++;
+    if (answer->number == 0)
+        count_sorts(counted[0], counts, n, answer->sum);
+}
+
+static void count_refused_field(const struct job_input *in, uint64_t number)
+{
+    unsigned kind = in->length > 3 ? in->bytes[3] : 0;
+    int known = kind >= WINDOWFLOOR_KIND_FLOOR && kind <= WINDOWFLOOR_KIND_ROWS;
+    if (reference_refused_tag(in->bytes, in->length) == WINDOWFLOOR_TAG_COUNTS)
+        seen[known ? AT_TAG_7 + kind - WINDOWFLOOR_KIND_FLOOR : LAST_AT_TAG_7][number]++;
+}
+
+/* Refusals of the whole job or of its buffers leave its fields unread. */
+static void count_fields(const struct job_input *in, const struct windowfloor_job_answer *answer)
+{
+    switch (answer->number) {
+    case WINDOWFLOOR_JOB_TOO_LONG: case WINDOWFLOOR_SHORT_BUFFER:
+        break;
+    case WINDOWFLOOR_PAST_THE_END: case WINDOWFLOOR_BAD_TAG: case WINDOWFLOOR_BAD_LENGTH:
+        count_refused_field(in, answer->number);
+        break;
+    default:
+        count_counted(in, answer);
+    }
+}
+
 static void count_accepted(const struct job_input *in, const struct windowfloor_job_answer *answer,
                            const uint32_t *scales)
 {
@@ -332,7 +437,7 @@ static void count_refusal(const struct job_input *in, const struct windowfloor_j
 static void compare_job(const struct job_input *in)
 {
     static struct lent images, working, list, scales;
-    const uint8_t *job = at_edge(in->bytes, in->length);
+    const uint8_t *job = at_edge(first_edge, in->bytes, in->length);
     lend(&images, sizeof(uint32_t), in->images_places);
     lend(&working, sizeof(uint64_t), in->working_places);
     lend(&list, sizeof(uint32_t), in->list_places);
@@ -352,39 +457,67 @@ static void compare_job(const struct job_input *in)
               && same_buffers(&scales) && memcmp(job, in->bytes, in->length) == 0,
           in->bytes, in->length);
     count_step(in, &library);
+    count_fields(in, &library);
     if (library.number == 0)
         count_accepted(in, &library, library_places(&scales));
     else
         count_refusal(in, &library);
 }
 
-/* The quotient of the floor that a sweep has found. */
+/* The quotient of the floor that a sweep has found, and its counts. */
 static void count_sweep(const struct sweep_input *in, uint64_t p)
 {
     uint64_t sum = 0;
     for (size_t i = 0; i < in->n; i++)
-        sum += reference_image(in->capacity, in->family, p, 0, in->sizes[i]).image;
+        sum += in->counts[i] * reference_image(in->capacity, in->family, p, 0, in->sizes[i]).image;
     count_rounded(OF_SWEEP, sum, reference_image(in->capacity, in->family, p, 0, 0).scale);
+    count_sorts(counted[1], in->counts, in->n, sum);
+}
+
+/* What the sweep's number would be if there were a count of 1 for each size. */
+static uint64_t sweep_with_ones(const struct sweep_input *in)
+{
+    static uint16_t ones[ROOM_SIZES];
+    for (size_t i = 0; i < in->n; i++)
+        ones[i] = 1;
+    return reference_sweep(in->capacity, in->family, in->sizes, in->n, ones, in->n, in->low,
+                           in->high).number;
+}
+
+static void count_refused_sweep(const struct sweep_input *in, uint64_t number)
+{
+    if (some_count(in->counts, in->counts_length, 0, 0))
+        seen[COUNT_0_IN_SWEEP][number]++;
+    if (number == WINDOWFLOOR_COUNT_0)
+        seen[BEHIND_22_OF_SWEEP][sweep_with_ones(in)]++;
+    if (number == WINDOWFLOOR_BAD_COUNT && in->counts_length != in->n)
+        seen[in->counts_length < in->n ? FEWER_COUNTS : MORE_COUNTS][sweep_with_ones(in)]++;
 }
 
 static void compare_sweep(const struct sweep_input *in)
 {
-    size_t bytes = in->n * sizeof *in->sizes;
-    const uint32_t *sizes = at_edge(in->sizes, bytes);
+    size_t bytes = in->n * sizeof *in->sizes, counts_bytes = in->counts_length * sizeof *in->counts;
+    const uint32_t *sizes = at_edge(first_edge, in->sizes, bytes);
+    const uint16_t *counts = at_edge(second_edge, in->counts, counts_bytes);
     struct windowfloor_sweep_answer library =
-        windowfloor_sweep(in->capacity, in->family, sizes, in->n, in->low, in->high);
+        windowfloor_sweep(in->capacity, in->family, sizes, in->n, counts, in->counts_length, in->low,
+                          in->high);
     struct windowfloor_sweep_answer reference =
-        reference_sweep(in->capacity, in->family, sizes, in->n, in->low, in->high);
-    judge(SWEEP, &library, &reference, sizeof library, memcmp(sizes, in->sizes, bytes) == 0,
+        reference_sweep(in->capacity, in->family, sizes, in->n, counts, in->counts_length, in->low,
+                        in->high);
+    judge(SWEEP, &library, &reference, sizeof library,
+          memcmp(sizes, in->sizes, bytes) == 0 && memcmp(counts, in->counts, counts_bytes) == 0,
           in, sizeof *in);
     if (library.number == 0)
         count_sweep(in, library.p);
+    else
+        count_refused_sweep(in, library.number);
 }
 
 static void compare_lengths(unsigned kind, size_t from, size_t to)
 {
     static struct job_input job;
-    for (unsigned tag = WINDOWFLOOR_TAG_KIND; tag <= WINDOWFLOOR_TAG_ROW; tag++)
+    for (unsigned tag = WINDOWFLOOR_TAG_KIND; tag <= WINDOWFLOOR_TAG_COUNTS; tag++)
         for (size_t length = from; length <= to; length++) {
             job_of_length(&job, kind, tag, length);
             compare_job(&job);
@@ -407,6 +540,33 @@ static void compare_rows(void)
         }
 }
 
+/* Fields of tag 7 in their place and out of it, of n and of nearly n counts, whole and cut. */
+static void compare_counts(unsigned kind, size_t n)
+{
+    static const char *const orders[] = {"1237", "12374", "12377", "123747", "12347",
+                                         "1273", "1723",  "7123",  "127",    "17",
+                                         "7",    "167",   "1674",  "1647",   "176"};
+    const size_t less = n > 0;
+    const size_t lengths[] = {0, n, 2 * (n - less), 2 * n - less, 2 * n, 2 * n + 1, 2 * (n + 1), 4 * n};
+    static struct job_input job;
+    for (size_t i = 0; i < sizeof orders / sizeof *orders; i++)
+        for (size_t k = 0; k < sizeof lengths / sizeof *lengths; k++) {
+            job_of_counts(&job, orders[i], kind, n, lengths[k]);
+            compare_job(&job);
+            job.length--;
+            compare_job(&job);
+        }
+}
+
+static void compare_all_counts(void)
+{
+    static const size_t numbers[] = {0, 1, 2, 3, 127, 128, 129, 2047, 2048};
+    for (size_t i = 0; i < sizeof numbers / sizeof *numbers; i++)
+        compare_counts(WINDOWFLOOR_KIND_FLOOR, numbers[i]);
+    for (unsigned kind = 0; kind < 5; kind++)
+        compare_counts(kind, 2);
+}
+
 static void compare_largest(void)
 {
     static struct job_input job;
@@ -416,14 +576,22 @@ static void compare_largest(void)
         largest_job(&job, bytes);
         compare_job(&job);
     }
+    largest_counted_job(&job);
+    compare_job(&job);
     largest_rows(&job);
     compare_job(&job);
-    longest_chain(&job);
-    compare_job(&job);
+    for (int with_counts = 0; with_counts < 2; with_counts++) {
+        longest_chain(&job, with_counts);
+        compare_job(&job);
+    }
     longest_chain_of_rows(&job);
+    compare_job(&job);
+    greatest_sum(&job);
     compare_job(&job);
     for (uint8_t family = 1; family <= WINDOWFLOOR_SWEEP_FAMILIES; family++) {
         largest_sweep(&sweep, family);
+        compare_sweep(&sweep);
+        greatest_swept_sum(&sweep, family);
         compare_sweep(&sweep);
     }
 }
@@ -453,16 +621,28 @@ static const unsigned char due[TALLIES][NUMBERS] = {
     [IMAGE] = {[0] = 1, [1] = 1, [2] = 1, [3] = 1, [4] = 1, [5] = 1},
     [TABLE] = {[0] = 1, [6] = 1, [7] = 1, [8] = 1, [9] = 1, [10] = 1, [11] = 1},
     [JOB] = {[0] = 1, [1] = 1, [2] = 1, [3] = 1, [4] = 1, [7] = 1, [8] = 1, [9] = 1, [10] = 1,
-             [11] = 1, [12] = 1, [13] = 1, [14] = 1, [15] = 1, [16] = 1, [17] = 1, [18] = 1},
+             [11] = 1, [12] = 1, [13] = 1, [14] = 1, [15] = 1, [16] = 1, [17] = 1, [18] = 1, [22] = 1},
     [ROWS] = {[0] = 1, [1] = 1, [2] = 1, [3] = 1, [4] = 1, [7] = 1, [8] = 1, [9] = 1, [10] = 1,
               [11] = 1, [12] = 1, [13] = 1, [14] = 1, [15] = 1, [17] = 1, [18] = 1, [21] = 1},
-    [SWEEP] = {[0] = 1, [1] = 1, [2] = 1, [6] = 1, [17] = 1, [19] = 1, [20] = 1},
+    [SWEEP] = {[0] = 1, [1] = 1, [2] = 1, [6] = 1, [17] = 1, [19] = 1, [20] = 1, [22] = 1},
     [ROW_1] = {[1] = 1, [2] = 1, [3] = 1, [4] = 1, [8] = 1, [9] = 1, [10] = 1, [11] = 1, [17] = 1,
                [18] = 1},
     [LATER_ROW] = {[1] = 1, [3] = 1, [4] = 1, [17] = 1, [18] = 1},
     [BEHIND_18] = {[0] = 1, [8] = 1, [9] = 1, [10] = 1, [11] = 1},
     [BEHIND_18 + 1] = {[0] = 1, [8] = 1, [9] = 1, [10] = 1, [11] = 1},
     [BEHIND_18 + 2] = {[0] = 1, [8] = 1, [9] = 1, [10] = 1, [11] = 1},
+    [AT_TAG_7] = {[13] = 1, [14] = 1, [15] = 1},
+    [AT_TAG_7 + 1] = {[13] = 1, [14] = 1},
+    [AT_TAG_7 + 2] = {[13] = 1, [14] = 1},
+    [AT_TAG_7 + 3] = {[13] = 1, [14] = 1},
+    [COUNTED_JOB] = {[0] = 1, [1] = 1, [2] = 1, [3] = 1, [4] = 1, [8] = 1, [9] = 1, [10] = 1, [11] = 1,
+                     [17] = 1, [18] = 1, [22] = 1},
+    [COUNT_0_IN_JOB] = {[1] = 1, [17] = 1, [22] = 1},
+    [COUNT_0_IN_SWEEP] = {[1] = 1, [2] = 1, [6] = 1, [17] = 1, [22] = 1},
+    [BEHIND_22_OF_JOB] = {[0] = 1, [3] = 1, [4] = 1, [8] = 1, [9] = 1, [11] = 1, [18] = 1},
+    [BEHIND_22_OF_SWEEP] = {[0] = 1, [19] = 1, [20] = 1},
+    [FEWER_COUNTS] = {[0] = 1, [17] = 1, [19] = 1, [20] = 1},
+    [MORE_COUNTS] = {[0] = 1, [17] = 1, [19] = 1, [20] = 1},
 };
 
 /* Prints the counts of a tally; answers its inputs. */
@@ -531,16 +711,40 @@ static void report_rounded(int *lacking)
     }
 }
 
+static void report_sorts(const char *what, const unsigned long *sorts, int *lacking)
+{
+    printf("%s", what);
+    for (int sort = 0; sort < SORTS; sort++) {
+        printf("  %s:%lu", sort_names[sort], sorts[sort]);
+        if (sorts[sort] == 0)
+            *lacking = printf(" MISSING");
+    }
+    printf("\n");
+}
+
+static void report_tallies(const char *what, enum tally first, enum tally last, int *lacking)
+{
+    printf("%s\n", what);
+    for (enum tally tally = first; tally <= last; tally++)
+        report(tally, lacking);
+}
+
 static unsigned long report_all(int *lacking)
 {
     printf("inputs by number of refusal (0: accepted)\n");
     unsigned long inputs = report_operations(lacking);
-    printf("refused jobs of rows by number\n");
-    report(ROW_1, lacking);
-    report(LATER_ROW, lacking);
-    printf("tables refused with 18 by what the table check says\n");
-    for (enum tally kind = BEHIND_18; kind <= LAST_BEHIND_18; kind++)
-        report(kind, lacking);
+    report_tallies("refused jobs of rows by number", ROW_1, LATER_ROW, lacking);
+    report_tallies("tables refused with 18 by what the table check says", BEHIND_18, LAST_BEHIND_18,
+                   lacking);
+    report_tallies("jobs refused for a field of tag 7 by number", AT_TAG_7, LAST_AT_TAG_7, lacking);
+    report_tallies("jobs with counts by number", COUNTED_JOB, COUNTED_JOB, lacking);
+    report_tallies("a count of 0 by number", COUNT_0_IN_JOB, COUNT_0_IN_SWEEP, lacking);
+    report_tallies("refused with 22 by the number with ones", BEHIND_22_OF_JOB, BEHIND_22_OF_SWEEP,
+                   lacking);
+    report_tallies("sweeps refused for their number of counts by the number with ones", FEWER_COUNTS,
+                   MORE_COUNTS, lacking);
+    report_sorts("accepted jobs by counts  ", counted[0], lacking);
+    report_sorts("accepted sweeps by counts", counted[1], lacking);
     report_rounded(lacking);
     report_shapes(lacking);
     report_steps("accepted jobs by steps  ", accepted_steps[0], lacking);
@@ -558,13 +762,15 @@ int main(int argc, char **argv)
     printf("compare: seed %llu, %lu rounds\n", (unsigned long long)seed, rounds);
     fflush(stdout);
     seed_inputs(seed);
-    make_edge();
+    first_edge = new_edge();
+    second_edge = new_edge();
     make_pattern();
     for (unsigned kind = 0; kind < 5; kind++) {
         compare_lengths(kind, 0, 20);
         compare_lengths(kind, 8180, 8204); /* about the most of sizes, of a table and of a row */
     }
     compare_rows();
+    compare_all_counts();
     compare_largest();
     for (unsigned long i = 0; i < rounds; i++)
         compare_round();

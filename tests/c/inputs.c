@@ -155,6 +155,25 @@ static uint64_t edge_size(uint64_t capacity, struct family_step s)
     return lesser(x + below(2), capacity);
 }
 
+/* Counts: of one byte or two, and with a byte 0. */
+static uint64_t random_copies(void)
+{
+    static const uint64_t ends[] = {1, 2, 255, 256, WINDOWFLOOR_MOST_COUNT};
+    switch (below(4)) {
+    case 0: return ends[below(sizeof ends / sizeof *ends)];
+    case 1: return 1 + below(WINDOWFLOOR_MOST_COUNT);
+    default: return 1 + below(6);
+    }
+}
+
+/* Not n: mostly near it. */
+static size_t another_length(size_t n)
+{
+    if (n > 0 && below(2))
+        return one_in(3) ? below(n) : n - 1;
+    return n + 1 + below(3);
+}
+
 void random_image(struct image_input *in)
 {
     uint64_t capacity = legal_capacity();
@@ -296,8 +315,8 @@ static void put_sizes(struct job_input *in, uint64_t capacity, size_t n, uint64_
         put_number(in, random_size(capacity, least));
 }
 
-/* A job of kind 1 or 2, up to its sizes. */
-static void put_list(struct job_input *in, unsigned kind, uint64_t capacity, size_t n)
+/* A job of kind 1 or 2, up to the header of its sizes. */
+static void put_list_head(struct job_input *in, unsigned kind, uint64_t capacity, size_t n)
 {
     put_kind(in, kind);
     put_header(in, 2, 4);
@@ -305,7 +324,25 @@ static void put_list(struct job_input *in, unsigned kind, uint64_t capacity, siz
     in->first_list = in->fields;
     in->lists = 1;
     put_header(in, 3, 4 * n);
+}
+
+static void put_list(struct job_input *in, unsigned kind, uint64_t capacity, size_t n)
+{
+    put_list_head(in, kind, capacity, n);
     put_sizes(in, capacity, n, kind == 1);
+}
+
+static void put_copies(struct job_input *in, uint64_t copies)
+{
+    put_byte(in, copies >> 8);
+    put_byte(in, copies);
+}
+
+static void put_counts(struct job_input *in, size_t n)
+{
+    put_header(in, 7, 2 * n);
+    while (n-- > 0)
+        put_copies(in, random_copies());
 }
 
 static void put_row(struct job_input *in, uint64_t right_side, size_t n)
@@ -374,6 +411,23 @@ static size_t random_count(void)
     if (one_in(400))
         return 2048 - below(2);
     return below(one_in(20) ? 300 : 12);
+}
+
+/* Mostly n counts; one in eight fields has a count of 0. */
+static void put_random_counts(struct job_input *in, size_t n)
+{
+    size_t length = one_in(20) ? another_length(n) : n;
+    put_counts(in, length);
+    if (length > 0 && one_in(8))
+        memset(in->bytes + in->length - 2 * (1 + below(length)), 0, 2);
+}
+
+static void put_random_list(struct job_input *in, unsigned kind, uint64_t capacity)
+{
+    size_t n = random_count();
+    put_list(in, kind, capacity, n);
+    if (kind == 1 && below(2))
+        put_random_counts(in, n);
 }
 
 /* Rows */
@@ -524,16 +578,25 @@ static void lend_places(struct job_input *in, uint64_t too_short)
     in->scales_places = some_places(WINDOWFLOOR_JOB_SCALES, too_short);
 }
 
+/* Counts before a step, mostly out of place. */
+static void put_random_steps(struct job_input *in, uint64_t present)
+{
+    for (size_t steps = random_steps(in->lists), i = 0; i < steps; i++) {
+        if (one_in(200))
+            put_counts(in, below(4));
+        present = i == 0 ? put_first_step(in, present) : put_random_step(in, present);
+    }
+}
+
 void random_job(struct job_input *in)
 {
     unsigned kind = 1 + (unsigned)below(3);
-    uint64_t present = below(2) ? legal_capacity() : 1 + below(40);
+    uint64_t capacity = below(2) ? legal_capacity() : 1 + below(40);
     if (kind == 3)
-        put_random_rows(in, present);
+        put_random_rows(in, capacity);
     else
-        put_list(in, kind, present, random_count());
-    for (size_t steps = random_steps(in->lists), i = 0; i < steps; i++)
-        present = i == 0 ? put_first_step(in, present) : put_random_step(in, present);
+        put_random_list(in, kind, capacity);
+    put_random_steps(in, capacity);
     if (one_in(5))
         for (uint64_t times = 1 + below(3); times > 0; times--)
             damage_values(in);
@@ -580,6 +643,28 @@ void job_of_rows(struct job_input *in, size_t rows, size_t n, unsigned fault)
     lend_places(in, 1000000);
 }
 
+/* The capacity is 0x01010101, which is also every size, and the step is legal there. */
+static void put_by_tag(struct job_input *in, unsigned tag, unsigned kind, size_t n, size_t length)
+{
+    struct family_step step = {2, 1, 0};
+    switch (tag) {
+    case 1: put_filled(in, 1, kind, 1); break;
+    case 2: put_filled(in, 2, 1, 4); break;
+    case 3: put_filled(in, 3, 1, 4 * n); break;
+    case 4: put_family(in, step); break;
+    case 6: put_filled(in, 6, 1, 4 + 4 * n); break;
+    case 7: put_filled(in, 7, 1, length); break;
+    }
+}
+
+void job_of_counts(struct job_input *in, const char *tags, unsigned kind, size_t n, size_t length)
+{
+    start_job(in);
+    for (; *tags != '\0'; tags++)
+        put_by_tag(in, (unsigned)(*tags - '0'), kind, n, length);
+    lend_places(in, 1000000);
+}
+
 /* Entries that never pass their size fit every list into the capacity. */
 static void put_largest_table(struct job_input *in)
 {
@@ -604,6 +689,15 @@ void largest_job(struct job_input *in, size_t bytes)
     lend_places(in, 1000000);
 }
 
+void largest_counted_job(struct job_input *in)
+{
+    size_t n = (65535 - 14 - 3 - 7 * (3 + 8192)) / 6;
+    put_list(in, 1, 2047, n);
+    put_counts(in, n);
+    put_largest_tables(in);
+    lend_places(in, 1000000);
+}
+
 void largest_rows(struct job_input *in)
 {
     put_kind(in, 3);
@@ -621,9 +715,11 @@ static void put_longest_chain(struct job_input *in)
         put_family(in, steps[i]);
 }
 
-void longest_chain(struct job_input *in)
+void longest_chain(struct job_input *in, int counted)
 {
     put_list(in, 1, 1000000, 2048);
+    if (counted)
+        put_counts(in, 2048);
     put_longest_chain(in);
     lend_places(in, 1000000);
 }
@@ -635,6 +731,27 @@ void longest_chain_of_rows(struct job_input *in)
     for (size_t row = 0; row < 64; row++)
         put_row(in, 1000000 - 700 * row, 32);
     put_longest_chain(in);
+    lend_places(in, 1000000);
+}
+
+/* Each step, one of each family, maps the limit to itself. */
+static void put_steps_at_limit(struct job_input *in)
+{
+    static const struct family_step steps[] = {{1, 500000000, 0}, {2, 1, 0}, {3, 2, 0}, {4, 500000001, 0},
+                                               {5, 1, 0}, {6, 600000000, 499999999}, {7, 600000000, 4}};
+    for (size_t i = 0; i < sizeof steps / sizeof *steps; i++)
+        put_family(in, steps[i]);
+}
+
+void greatest_sum(struct job_input *in)
+{
+    put_list_head(in, 1, LIMIT, 2048);
+    for (int i = 0; i < 2048; i++)
+        put_number(in, LIMIT);
+    put_header(in, 7, 2 * 2048);
+    for (int i = 0; i < 2048; i++)
+        put_copies(in, WINDOWFLOOR_MOST_COUNT);
+    put_steps_at_limit(in);
     lend_places(in, 1000000);
 }
 
@@ -666,6 +783,13 @@ static void put_sweep_sizes(struct sweep_input *in, size_t n)
         in->sizes[i] = (uint32_t)random_size(in->capacity, 1);
 }
 
+static void put_sweep_counts(struct sweep_input *in, size_t length, int all_1)
+{
+    in->counts_length = length;
+    for (size_t i = 0; i < length; i++)
+        in->counts[i] = (uint16_t)(all_1 ? 1 : random_copies());
+}
+
 void random_sweep(struct sweep_input *in)
 {
     in->capacity = legal_capacity();
@@ -674,6 +798,9 @@ void random_sweep(struct sweep_input *in)
     put_sweep_sizes(in, one_in(300) ? 2047 + below(3) : below(16));
     if (in->n > 0 && one_in(20))
         in->sizes[below(in->n)] = (uint32_t)(one_in(2) ? 0 : in->capacity + 1 + below(LIMIT));
+    put_sweep_counts(in, one_in(25) ? another_length(in->n) : in->n, one_in(8));
+    if (in->counts_length > 0 && one_in(20))
+        in->counts[below(in->counts_length)] = 0;
     if (one_in(25))
         in->family = (uint8_t)(one_in(2) ? 0 : 6 + below(250));
     if (one_in(25))
@@ -687,4 +814,20 @@ void largest_sweep(struct sweep_input *in, uint8_t family)
     in->low = 1;
     in->high = 4096;
     put_sweep_sizes(in, 2048);
+    put_sweep_counts(in, 2048, 0);
+}
+
+/* The first p of the range has the limit as its scale. */
+void greatest_swept_sum(struct sweep_input *in, uint8_t family)
+{
+    static const uint64_t lows[] = {[1] = 1, [2] = 1, [3] = 2, [4] = 500000001, [5] = 1};
+    in->capacity = LIMIT;
+    in->family = family;
+    in->low = lows[family];
+    in->high = in->low + 2;
+    in->n = in->counts_length = 2048;
+    for (size_t i = 0; i < 2048; i++) {
+        in->sizes[i] = (uint32_t)LIMIT;
+        in->counts[i] = WINDOWFLOOR_MOST_COUNT;
+    }
 }

@@ -32,7 +32,8 @@ struct sweep_input {
     uint64_t capacity, low, high;
     uint8_t family;
     uint32_t sizes[ROOM_SIZES];
-    size_t n;
+    uint16_t counts[ROOM_SIZES];
+    size_t n, counts_length;
 };
 
 void seed_inputs(uint64_t seed);
@@ -54,11 +55,20 @@ void job_of_length(struct job_input *in, unsigned kind, unsigned tag, size_t len
  * or 15, or none for 0. */
 void job_of_rows(struct job_input *in, size_t rows, size_t n, unsigned fault);
 
+/* A job of the kind with fields of these tags, a digit for each: n sizes, or coefficients of a row, and
+ * counts whose value has this length. */
+void job_of_counts(struct job_input *in, const char *tags, unsigned kind, size_t n, size_t length);
+
 /* Inputs as large as they get; those of rows have 64 of them. */
 void largest_job(struct job_input *in, size_t bytes); /* seven tables of 2,048 entries */
+void largest_counted_job(struct job_input *in);       /* the same, and a count for each size */
 void largest_rows(struct job_input *in);
-void longest_chain(struct job_input *in); /* 2,048 sizes, eight family steps */
+void longest_chain(struct job_input *in, int counted); /* 2,048 sizes, eight family steps */
 void longest_chain_of_rows(struct job_input *in);
 void largest_sweep(struct sweep_input *in, uint8_t family);
+
+/* The greatest sums: 2,048 sizes with the greatest count and image. */
+void greatest_sum(struct job_input *in);
+void greatest_swept_sum(struct sweep_input *in, uint8_t family);
 
 #endif

@@ -59,12 +59,30 @@ run_lists() {
     run 1000000000 600000000 600000000 400000001
 }
 
+run_counted_lists() {
+    run 10 7x2 5x3
+    run 10 5x300
+    run 10 6x255 6x256 4
+    run 100 51x2 34x3 26x4
+    run 10 7x1 5x1
+    run 10 3x65535 7x65535
+    run 1000000000 1000000000x65535 1000000000x65535 600000000x2
+}
+
 run_refused() {
     run 10 11
     run 10 0
     run 0 1
     run 1000000001 1
     run 99999999999 1
+}
+
+run_refused_counts() {
+    run 10 5x0
+    run 10 5x2 5x0
+    run 10 5x0 11
+    run 10 0x10
+    run 1000000001 5x0
 }
 
 run_wrong_arguments() {
@@ -76,6 +94,21 @@ run_wrong_arguments() {
     run 10 ''
     run 10 18446744073709551616
     run 10 4294967296
+    run 10 5x
+    run 10 x5
+    run 10 5 5xx3
+    run 10 5x3x
+    run 10 5X3
+    run 10 5x-1
+    run 10 5x+1
+    run 10 -5x3
+    run 10 5 x 3
+    run 10x1 5
+    run 10 5x65536
+    run 10 5x4294967297
+    run 10 5x18446744073709551617
+    run 10 4294967297x1
+    run 10 18446744073709551617x1
 }
 
 run_files() {
@@ -83,6 +116,9 @@ run_files() {
     run_text spaces.txt '\n 60\t20\v20\r\n\f20'
     run_text zeros.txt "60 $(repeat 0 1000)20\n"
     run_text most_sizes.txt "60\n$(repeat '7 ' 2047)61\n"
+    run_text counts.txt '60\n20x5 31x3\n41x2\t12'
+    run_text zeros_of_count.txt "60 20x$(repeat 0 1000)5\n"
+    run_text most_counts.txt "60\n$(repeat '7x65535 ' 2047)7x0\n"
 }
 
 run_wrong_files() {
@@ -104,6 +140,9 @@ run_wrong_files() {
     run_text too_many.txt "60\n$(repeat '7\\n' 2048)8\n"
     run_text long.txt "60\n20 $(repeat a 70000) 20\n"
     run_text digits.txt "60\n20\n$(repeat 9 70000)\n"
+    run_text count.txt '60\n20x5\n31x 3\n'
+    run_text count_bits.txt '60\n20x65536\n'
+    run_text counted_capacity.txt '60x1\n20x5\n'
     run_file "$lists" missing.txt
     mkdir "$lists/folder"
     run_file "$lists" folder
@@ -140,12 +179,17 @@ run_wrong_models() {
     run_rows_text coefficient_bits.txt '10 7\n10 4294967296\n'
     run_rows_text too_many_rows.txt "$(repeat '10\\n' 64)11\n"
     run_rows_text too_many_coefficients.txt "10 $(repeat '7 ' 2048)\n10 8\n"
+    run_rows_text row_count.txt '10 7\n10 5x3\n'
+    run_rows_text right_side_count.txt '10x1 7\n'
+    run_rows "$here" planner_rows.txt 1 3x1 0
     run_rows "$lists" missing.txt
 }
 
 run_all() {
     run_lists
+    run_counted_lists
     run_refused
+    run_refused_counts
     run_wrong_arguments
     run_files
     run_wrong_files

@@ -149,6 +149,14 @@ static int capacity_refused(uint64_t capacity)
     return capacity == 0 || capacity > LIMIT;
 }
 
+static int some_count_is_0(const uint16_t *counts, size_t n)
+{
+    for (size_t i = 0; i < n; i++)
+        if (counts[i] == 0)
+            return 1;
+    return 0;
+}
+
 /* Image */
 
 static struct windowfloor_image_answer image_refused(uint64_t number)
@@ -256,9 +264,13 @@ enum part { TAG, LENGTH_HIGH, LENGTH_LOW, VALUE };
 enum place {
     OUT_OF_PLACE,
     AT_START,
-    BEHIND_KIND, /* any but 3 */
+    BEHIND_KIND, /* any but 1 and 3 */
     BEHIND_CAPACITY,
     BEHIND_SIZES,
+    BEHIND_FLOOR_KIND, /* 1 */
+    BEHIND_FLOOR_CAPACITY,
+    BEHIND_FLOOR_SIZES,
+    BEHIND_COUNTS,
     AMONG_ROWS, /* behind the kind 3, or behind a row */
     BEHIND_STEP,
     PLACES
@@ -270,13 +282,19 @@ static const uint8_t place_behind[PLACES][TAGS] = {
     [BEHIND_KIND] = {[2] = BEHIND_CAPACITY},
     [BEHIND_CAPACITY] = {[3] = BEHIND_SIZES},
     [BEHIND_SIZES] = {[4] = BEHIND_STEP, [5] = BEHIND_STEP},
+    [BEHIND_FLOOR_KIND] = {[2] = BEHIND_FLOOR_CAPACITY},
+    [BEHIND_FLOOR_CAPACITY] = {[3] = BEHIND_FLOOR_SIZES},
+    [BEHIND_FLOOR_SIZES] = {[4] = BEHIND_STEP, [5] = BEHIND_STEP, [7] = BEHIND_COUNTS},
+    [BEHIND_COUNTS] = {[4] = BEHIND_STEP, [5] = BEHIND_STEP},
     [AMONG_ROWS] = {[4] = BEHIND_STEP, [5] = BEHIND_STEP, [6] = AMONG_ROWS},
     [BEHIND_STEP] = {[4] = BEHIND_STEP, [5] = BEHIND_STEP},
 };
 
-static const uint8_t may_end[PLACES] = {[BEHIND_SIZES] = 1, [AMONG_ROWS] = 1, [BEHIND_STEP] = 1};
+static const uint8_t may_end[PLACES] = {[BEHIND_SIZES] = 1, [BEHIND_FLOOR_SIZES] = 1, [BEHIND_COUNTS] = 1,
+                                        [AMONG_ROWS] = 1,   [BEHIND_STEP] = 1};
 
-/* A tag's lengths, and how many bytes the first number of its value has, and each of the others. */
+/* A tag's lengths, and how many bytes the first number of its value has, and each of the others. Of the
+ * lengths of tag 7 one alone is right: there are as many counts as sizes. */
 static const struct layout {
     size_t least, most, multiple, first, other;
 } layouts[TAGS] = {
@@ -286,6 +304,7 @@ static const struct layout {
     [4] = {9, 9, 9, 1, 4},
     [5] = {8, 4 * 2048, 4, 4, 4},
     [6] = {4, MOST_BYTES, 4, 4, 4},
+    [7] = {0, 2 * 2048, 2, 2, 2},
 };
 
 struct field {
@@ -311,6 +330,32 @@ struct machine {
     uint32_t number; /* the present number, so far */
 };
 
+/* The field of a tag that comes once. */
+static struct field field_of(const struct fields *fields, unsigned tag)
+{
+    size_t i = 0;
+    while (fields->at[i].tag != tag)
+        i++;
+    return fields->at[i];
+}
+
+static int length_wrong(unsigned tag, size_t length, const struct fields *fields)
+{
+    const struct layout *layout = &layouts[tag];
+    if (length < layout->least || length > layout->most || length % layout->multiple != 0)
+        return 1;
+    return tag == 7 && length != 2 * field_of(fields, 3).count;
+}
+
+static enum place place_behind_kind(uint32_t kind)
+{
+    switch (kind) {
+    case 1: return BEHIND_FLOOR_KIND;
+    case 3: return AMONG_ROWS;
+    default: return BEHIND_KIND;
+    }
+}
+
 static void take_tag(struct machine *m, uint8_t tag)
 {
     m->tag = tag;
@@ -321,16 +366,15 @@ static void take_tag(struct machine *m, uint8_t tag)
 
 static void start_value(struct machine *m, struct fields *fields)
 {
-    const struct layout *layout = &layouts[m->tag];
     if (m->fault != 0)
         return;
-    if (m->left < layout->least || m->left > layout->most || m->left % layout->multiple != 0) {
+    if (length_wrong(m->tag, m->left, fields)) {
         m->fault = 15;
         return;
     }
     struct field f = {m->tag, 0, fields->numbers + fields->numbers_kept};
     fields->at[fields->count++] = f;
-    m->lacking = layout->first;
+    m->lacking = layouts[m->tag].first;
     m->number = 0;
 }
 
@@ -338,8 +382,8 @@ static void end_number(struct machine *m, struct fields *fields)
 {
     fields->numbers[fields->numbers_kept++] = m->number;
     fields->at[fields->count - 1].count++;
-    if (m->place == BEHIND_KIND && m->number == 3)
-        m->place = AMONG_ROWS;
+    if (m->tag == 1)
+        m->place = place_behind_kind(m->number);
     m->lacking = layouts[m->tag].other;
     m->number = 0;
 }
@@ -378,27 +422,30 @@ static void take_byte(struct machine *m, uint8_t byte, struct fields *fields)
     }
 }
 
-static uint64_t read_fields(const uint8_t *job, size_t bytes, struct fields *fields)
+/* The machine at the job's end, or behind the first field with a fault. */
+static struct machine read_fields(const uint8_t *job, size_t bytes, struct fields *fields)
 {
     struct machine m = {TAG, AT_START, 0, 0, 0, 0, 0, 0};
     fields->count = fields->numbers_kept = 0;
-    for (size_t i = 0; i < bytes; i++) {
+    for (size_t i = 0; i < bytes && (m.part != TAG || m.fault == 0); i++)
         take_byte(&m, job[i], fields);
-        if (m.part == TAG && m.fault != 0)
-            return m.fault;
-    }
+    return m;
+}
+
+static uint64_t fields_refusal(struct machine m)
+{
     if (m.part != TAG)
         return 13;
+    if (m.fault != 0)
+        return m.fault;
     return may_end[m.place] ? 0 : 14;
 }
 
-/* The field of a tag that comes once. */
-static struct field field_of(const struct fields *fields, unsigned tag)
+unsigned reference_refused_tag(const uint8_t *job, size_t bytes)
 {
-    size_t i = 0;
-    while (fields->at[i].tag != tag)
-        i++;
-    return fields->at[i];
+    static struct fields fields;
+    struct machine m = read_fields(job, bytes, &fields);
+    return m.part != TAG || m.fault != 0 ? m.tag : 0;
 }
 
 /* Jobs: the steps, applied to a list of the reference's own */
@@ -407,6 +454,7 @@ struct chain {
     uint64_t scale; /* the capacity of the next step */
     size_t n;
     uint32_t images[2048];
+    uint16_t counts[2048];
 };
 
 static uint64_t family_step(struct field f, struct chain *chain)
@@ -444,7 +492,7 @@ static uint64_t list_refusal(unsigned kind, const struct chain *chain)
     for (size_t i = 0; i < chain->n; i++)
         if (chain->images[i] > chain->scale || (kind == 1 && chain->images[i] == 0))
             return 17;
-    return 0;
+    return some_count_is_0(chain->counts, chain->n) ? 22 : 0;
 }
 
 /* Job */
@@ -454,6 +502,17 @@ static void start_chain(struct chain *chain, uint32_t capacity, const uint32_t *
     chain->scale = capacity;
     chain->n = n;
     memcpy(chain->images, sizes, n * sizeof *sizes);
+    for (size_t i = 0; i < n; i++)
+        chain->counts[i] = 1;
+}
+
+/* The counts of a job that has them stand in the place of ones. */
+static void set_counts(struct chain *chain, const struct fields *fields)
+{
+    for (size_t k = 0; k < fields->count; k++)
+        if (fields->at[k].tag == 7)
+            for (size_t i = 0; i < chain->n; i++)
+                chain->counts[i] = (uint16_t)fields->at[k].numbers[i];
 }
 
 /* A refusal's number, step and length go into the answer. */
@@ -490,7 +549,7 @@ static void accept_list(unsigned kind, const struct chain *chain, uint32_t *imag
     for (size_t i = 0; i < chain->n; i++) {
         images[i] = chain->images[i];
         if (kind == 1)
-            answer->sum += chain->images[i];
+            answer->sum += (uint64_t)chain->counts[i] * chain->images[i];
     }
     answer->floor = (uint64_t)up(answer->sum, answer->scale);
 }
@@ -505,6 +564,7 @@ static void run_list(unsigned kind, const struct fields *fields, uint32_t *image
         return;
     }
     start_chain(&chain, field_of(fields, 2).numbers[0], sizes.numbers, sizes.count);
+    set_counts(&chain, fields);
     run_chain(kind, fields, &chain, list, answer);
     if (answer->number == 0)
         accept_list(kind, &chain, images, answer);
@@ -584,7 +644,7 @@ struct windowfloor_job_answer reference_job(const uint8_t *job, size_t bytes,
     else if (images_places < 2048 || working_places < 2048 || list_places < 2047 || scales_places < 64)
         answer.number = 7;
     else
-        answer.number = read_fields(job, bytes, &fields);
+        answer.number = fields_refusal(read_fields(job, bytes, &fields));
     if (answer.number != 0)
         return answer;
     unsigned kind = field_of(&fields, 1).numbers[0];
@@ -598,34 +658,37 @@ struct windowfloor_job_answer reference_job(const uint8_t *job, size_t bytes,
 /* Sweep */
 
 static uint64_t sweep_refusal(uint64_t capacity, uint8_t family, const uint32_t *sizes, size_t n,
-                              uint64_t low, uint64_t high)
+                              const uint16_t *counts, size_t counts_length, uint64_t low, uint64_t high)
 {
     if (capacity_refused(capacity))
         return 1;
     if (family < 1 || family > 5)
         return 2;
-    if (n > 2048)
+    if (n > 2048 || counts_length != n)
         return 6;
     for (size_t i = 0; i < n; i++)
         if (sizes[i] == 0 || sizes[i] > capacity)
             return 17;
+    if (some_count_is_0(counts, n))
+        return 22;
     return low > high || high - low > 4095 ? 19 : 0;
 }
 
-static uint64_t one_step_floor(struct step s, const uint32_t *sizes, size_t n)
+static uint64_t one_step_floor(struct step s, const uint32_t *sizes, const uint16_t *counts, size_t n)
 {
     wide sum = 0;
     for (size_t i = 0; i < n; i++)
-        sum += image_of(s, sizes[i]);
+        sum += counts[i] * image_of(s, sizes[i]);
     return (uint64_t)up(sum, scale_of(s));
 }
 
 struct windowfloor_sweep_answer reference_sweep(uint64_t capacity, uint8_t family,
                                                 const uint32_t *sizes, size_t n,
+                                                const uint16_t *counts, size_t counts_length,
                                                 uint64_t low, uint64_t high)
 {
     struct windowfloor_sweep_answer answer = {0, 0, 0};
-    answer.number = sweep_refusal(capacity, family, sizes, n, low, high);
+    answer.number = sweep_refusal(capacity, family, sizes, n, counts, counts_length, low, high);
     if (answer.number != 0)
         return answer;
     answer.number = 20;
@@ -633,7 +696,7 @@ struct windowfloor_sweep_answer reference_sweep(uint64_t capacity, uint8_t famil
         struct step s = {capacity, family, low + i, 0};
         if (step_refusal(s) != 0)
             continue;
-        uint64_t floor = one_step_floor(s, sizes, n);
+        uint64_t floor = one_step_floor(s, sizes, counts, n);
         if (answer.number == 20 || floor > answer.floor) {
             answer.number = 0;
             answer.floor = floor;

@@ -22,7 +22,11 @@ struct windowfloor_job_answer reference_job(const uint8_t *job, size_t bytes,
 
 struct windowfloor_sweep_answer reference_sweep(uint64_t capacity, uint8_t family,
                                                 const uint32_t *sizes, size_t n,
+                                                const uint16_t *counts, size_t counts_length,
                                                 uint64_t low, uint64_t high);
+
+/* The tag of the field that a job is refused for with 13, 14 or 15; 0 if it is refused for none. */
+unsigned reference_refused_tag(const uint8_t *job, size_t bytes);
 
 /* best(0) to best(capacity) of a table. */
 void reference_bests(const uint32_t *table, size_t capacity, uint64_t *best);

@@ -3,10 +3,30 @@ import sys
 from pathlib import Path
 
 CRATES = Path(__file__).resolve().parents[2] / "crates"
+BLOCK, MOST_BLOCKS = 65_536, 64  # the bytes that the program of the job cases reads at once, and how often it does
+
+
+def line(row):
+    return " ".join(map(str, row)) + "\n"
 
 
 def lines(rows):
-    return "".join(" ".join(map(str, row)) + "\n" for row in rows)
+    return "".join(map(line, rows))
+
+
+def in_blocks(rows):
+    """The lines, and empty ones where the next would lie in two blocks."""
+    text, room = [], BLOCK
+    for row in map(line, rows):
+        assert len(row) <= BLOCK
+        if len(row) > room:
+            text.append("\n" * room)
+            room = BLOCK
+        text.append(row)
+        room -= len(row)
+    text = "".join(text)
+    assert len(text) <= BLOCK * MOST_BLOCKS
+    return text
 
 
 def store_or_check(crate, stdin, stdout):

@@ -1,4 +1,4 @@
-"""Jobs as bytes: their fields, the cases made of them, random steps and damage."""
+"""Jobs as bytes: their fields, the cases made of them, what is random in them, and damage."""
 
 import itertools
 
@@ -62,6 +62,30 @@ def rows_job(rows, *steps):
     return b"".join(rows_fields(rows, *steps))
 
 
+def counts(*numbers):
+    return field(7, b"".join(number.to_bytes(2, "big") for number in numbers))
+
+
+def apart(pairs):
+    """The sizes of pairs, and their counts."""
+    return [size for size, _ in pairs], [count for _, count in pairs]
+
+
+def written_out(pairs):
+    """The sizes of pairs, each as often as it is counted."""
+    return [size for size, count in pairs for _ in range(count)]
+
+
+def counted_fields(capacity, pairs, *steps):
+    """The fields of a floor job with counts; a pair is a size and its count."""
+    sizes, numbers = apart(pairs)
+    return head(1, capacity, sizes) + [counts(*numbers)] + list(steps)
+
+
+def counted_job(capacity, pairs, *steps):
+    return b"".join(counted_fields(capacity, pairs, *steps))
+
+
 # Refused at capacity 10.
 BAD_STEPS = (
     family(0, 1), family(8, 1), family(255, 1), family(1, 6), family(1, 3, 1), family(2, 0),
@@ -87,6 +111,11 @@ def bad_tables_about_4():
 
 # Cases
 
+def lent():
+    """Buffers of a job, each with no more places than it needs."""
+    return [0] * wf.JOB_IMAGES, [0] * wf.JOB_WORKING, [0] * wf.JOB_LIST, [0] * wf.JOB_SCALES
+
+
 def make(data, images=wf.JOB_IMAGES, working=wf.JOB_WORKING, listed=wf.JOB_LIST, scales=wf.JOB_SCALES):
     """A case of a job and the places of its buffers."""
     runs = [(len(list(group)), byte) for byte, group in itertools.groupby(data)]
@@ -101,27 +130,51 @@ def cut_short(data):
         yield data[:end]
 
 
+def other_tags_at(good, place):
+    """Every tag at a place of the good fields; the field there left out, and twice."""
+    before, part, behind = good[:place], good[place], good[place + 1:]
+    for tag in (0, 1, 2, 3, 4, 5, 6, 7, 128, 255):
+        yield b"".join(before + [bytes([tag]) + part[1:]] + behind)
+    yield b"".join(before + behind)
+    yield b"".join(before + [part, part] + behind)
+
+
 def other_tags(good):
-    """Every tag at every place of the good fields; each of them left out, and twice."""
-    for place, part in enumerate(good):
-        for tag in (0, 1, 2, 3, 4, 5, 6, 7, 128, 255):
-            yield b"".join(good[:place] + [bytes([tag]) + part[1:]] + good[place + 1:])
-        yield b"".join(good[:place] + good[place + 1:])
-        yield b"".join(good[:place] + [part] + good[place:])
+    for place in range(len(good)):
+        yield from other_tags_at(good, place)
+
+
+def other_lengths_at(good, place):
+    """Other lengths of the field at a place: of its value and its header, and of the header alone."""
+    others = (8187, 8188, 8189, 8191, 8192, 8193, 8196, 12_000)
+    before, part, behind = good[:place], good[place], good[place + 1:]
+    value = part[3:]
+    for length in itertools.chain(range(33), others):
+        yield b"".join(before + [field(part[0], (value + bytes(length))[:length])] + behind)
+    for length in (0, 1, len(value) - 1, len(value) + 1, len(value) + 4, 256, 65_535):
+        yield b"".join(before + [field(part[0], value, length)] + behind)
 
 
 def other_lengths(good):
-    """Other lengths: of a value and its header, and of the header alone."""
-    others = (8187, 8188, 8189, 8191, 8192, 8193, 8196, 12_000)
-    for place, part in enumerate(good):
-        before, value, behind = good[:place], part[3:], good[place + 1:]
-        for length in itertools.chain(range(33), others):
-            yield b"".join(before + [field(part[0], (value + bytes(length))[:length])] + behind)
-        for length in (0, 1, len(value) - 1, len(value) + 1, len(value) + 4, 256, 65_535):
-            yield b"".join(before + [field(part[0], value, length)] + behind)
+    for place in range(len(good)):
+        yield from other_lengths_at(good, place)
 
 
-# Random steps, and damage
+# Random jobs
+
+def leaving(draw, left):
+    """A job, drawn until its sum is so many more than a multiple of E."""
+    while True:
+        data = draw()
+        _, _, _, total, scale, *_ = wf.job(data, *lent())
+        if (total - left) % scale == 0:
+            return data
+
+
+def random_pairs(rng, capacity, n, most):
+    """So many pairs, with counts up to the most."""
+    return [(rng.randint(1, capacity), rng.randint(1, most)) for _ in range(n)]
+
 
 def random_family(rng, capacity):
     """A family step that is legal at this capacity, and its scale."""
@@ -150,6 +203,8 @@ def random_steps(rng, capacity):
         steps.append(step)
     return steps
 
+
+# Damage
 
 def change_byte(rng, data):
     place = rng.randrange(len(data))

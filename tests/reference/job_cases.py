@@ -10,7 +10,8 @@ the working buffer 7,000,000,000 + j, of the list buffer 900,000 + j and of the
 scales 700,000 + j. No case lies in two blocks of 65,536 bytes: empty lines fill
 up a block.
 
-Here are the cases of kinds 1 and 2; row_cases.py has those of kind 3."""
+Here are the cases of kinds 1 and 2; row_cases.py has those of kind 3 and
+count_cases.py those with counts."""
 
 import itertools
 import random
@@ -18,16 +19,16 @@ import sys
 
 sys.dont_write_bytecode = True
 import windowfloor as wf
-from case_files import store_or_check
+from case_files import in_blocks, lines, store_or_check
+from count_cases import count_cases
 from job_bytes import (
-    BAD_STEPS, bad_tables_about_4, changed_value, cut_short, damaged, family, field, head, job, last_only, make,
-    other_lengths, other_tags, random_steps, table)
+    BAD_STEPS, bad_tables_about_4, changed_value, cut_short, damaged, family, field, head, job, last_only, leaving,
+    make, other_lengths, other_tags, random_steps, table)
 from row_cases import row_cases
 from table_cases import FAMILY_STEPS, LIMIT, MAX, MOST_PLACES, checksum
 
 RANDOM = 600  # valid jobs, and as many damaged ones of each kind
 MOST_BYTES = 65_536
-BLOCK, MOST_BLOCKS = 65_536, 32
 SIZES, ENTRIES = 2048, 2048  # the most of one job and of one table
 SAME = 0x3B3B3B3B  # a size under the limit whose repeats are one run
 
@@ -152,13 +153,8 @@ def counts():
     yield make(job(2, 900, sizes, family(4, 9), table(*entries)))
 
 
-def sum_leaving(rng, capacity, steps, left):
-    """A job whose sum is so many more than a multiple of E."""
-    while True:
-        case = make(job(1, capacity, [rng.randint(1, capacity) for _ in range(rng.randint(2, 9))], *steps))
-        _, _, _, total, scale, *_ = answer(case)
-        if (total - left) % scale == 0:
-            return case
+def random_floor_job(rng, capacity, steps):
+    return job(1, capacity, [rng.randint(1, capacity) for _ in range(rng.randint(2, 9))], *steps)
 
 
 def roundings():
@@ -167,7 +163,7 @@ def roundings():
     for capacity, *steps in ((96,), (96, family(3, 7)), (96, family(1, 20), family(4, 8)),
                              (6, table(0, 0, 2, 3, 3, 4, 6), family(5, 4))):
         for left in (0, 1, -1):
-            yield sum_leaving(rng, capacity, steps, left)
+            yield make(leaving(lambda: random_floor_job(rng, capacity, steps), left))
     for last in (1, SAME - 1, SAME):
         yield make(job(1, SAME, (SAME,) * (SIZES - 1) + (last,)))
 
@@ -228,7 +224,8 @@ def all_cases():
     """Each case once, in the order of its first making."""
     cases = {}
     for part in (reckoned, form, truncated, tag_orders, lengths, chains, bad_steps, other_capacities,
-                 capacities, kinds, counts, roundings, buffers, longest, random_cases, row_cases):
+                 capacities, kinds, counts, roundings, buffers, longest, random_cases, row_cases,
+                 count_cases):
         cases.update(dict.fromkeys(part()))
     return list(cases)
 
@@ -252,28 +249,9 @@ def answer(case):
     return numbers + (checksum(images), checksum(listed), checksum(scales))
 
 
-def line(row):
-    return " ".join(map(str, row)) + "\n"
-
-
-def in_blocks(rows):
-    """The lines, and empty ones where the next would lie in two blocks."""
-    text, room = [], BLOCK
-    for row in map(line, rows):
-        assert len(row) <= BLOCK
-        if len(row) > room:
-            text.append("\n" * room)
-            room = BLOCK
-        text.append(row)
-        room -= len(row)
-    text = "".join(text)
-    assert len(text) <= BLOCK * MOST_BLOCKS
-    return text
-
-
 def main():
     cases = all_cases()
-    return store_or_check("job_cases", in_blocks(cases), "".join(line(answer(case)) for case in cases))
+    return store_or_check("job_cases", in_blocks(cases), lines(map(answer, cases)))
 
 
 if __name__ == "__main__":

@@ -9,7 +9,7 @@ from pathlib import Path
 
 sys.dont_write_bytecode = True
 import windowfloor as wf
-from job_cases import family as family_step, job
+from job_bytes import apart, counted_job, family as family_step, job
 
 FOLDER = Path(__file__).resolve().parents[1] / "c"
 FAMILIES = ("no step", "threshold", "rounding", "mirrored quotient", "mirrored Vanderbeck", "Burdett-Johnson")
@@ -17,13 +17,16 @@ MOST_TRIED = 16 * 4096  # the greatest p of all ranges
 WORDS = {1: "the capacity is 0 or over the limit", 2: "the family is not 1 to 7, or in a sweep not 1 to 5",
          3: "p or q is not legal for the family", 4: "the scale would pass the limit",
          17: "a size is 0 in a list, or over the capacity",
-         21: "a job of rows has no row, too many rows, or too many coefficients"}
+         21: "a job of rows has no row, too many rows, or too many coefficients", 22: "a count is 0"}
 LISTS = ("10 7 7 5 5 5", "10 6 6 6", "100 51 51 34 34 34 26 26 26 26", "planner.txt", "1 1 1", "8192 4097 2731 2731",
          "12287 8192 8192 4096 4096 4096", "12290 8194 8194 4097 4097 4097", "20000 13334 13334 6667 6667 6667",
          "65536 40000 30000", "65537 40000 30000", "196607 131072 131072 65536 65536 65536",
          "1000000000 600000000 600000000 400000001")
 REFUSED = ("10 11", "10 0", "0 1", "1000000001 1", "99999999999 1")
-USAGE = "usage: planner CAPACITY SIZE... | planner FILE | planner --rows FILE [FAMILY P Q]..."
+COUNTED = ("10 7x2 5x3", "10 5x300", "10 6x255 6x256 4", "100 51x2 34x3 26x4", "10 7x1 5x1", "10 3x65535 7x65535",
+           "1000000000 1000000000x65535 1000000000x65535 600000000x2")
+REFUSED_COUNTS = ("10 5x0", "10 5x2 5x0", "10 5x0 11", "10 0x10", "1000000001 5x0")
+USAGE = "usage: planner CAPACITY SIZE[xCOUNT]... | planner FILE | planner --rows FILE [FAMILY P Q]..."
 WRONG_ARGUMENTS = (
     ("", USAGE),
     ("10", "10: " + os.strerror(errno.ENOENT)),
@@ -32,9 +35,25 @@ WRONG_ARGUMENTS = (
     ("10 5 -5", "argument 3: starts with a sign: -5"),
     ("10 ''", "argument 2: not a number"),
     ("10 18446744073709551616", "argument 2: a number of more than 64 bits: 18446744073709551616"),
-    ("10 4294967296", "argument 2: a size of more than 32 bits: 4294967296"))
-FILES = (("no_sizes.txt", (60,)), ("spaces.txt", (60, 20, 20, 20)), ("zeros.txt", (60, 20)),
-         ("most_sizes.txt", (60, *[7] * 2047, 61)))
+    ("10 4294967296", "argument 2: a size of more than 32 bits: 4294967296"),
+    ("10 5x", "argument 2: not a number: 5x"),
+    ("10 x5", "argument 2: not a number: x5"),
+    ("10 5 5xx3", "argument 3: not a number: 5xx3"),
+    ("10 5x3x", "argument 2: not a number: 5x3x"),
+    ("10 5X3", "argument 2: not a number: 5X3"),
+    ("10 5x-1", "argument 2: not a number: 5x-1"),
+    ("10 5x+1", "argument 2: not a number: 5x+1"),
+    ("10 -5x3", "argument 2: starts with a sign: -5x3"),
+    ("10 5 x 3", "argument 3: not a number: x"),
+    ("10x1 5", "argument 1: not a number: 10x1"),
+    ("10 5x65536", "argument 2: a count of more than 16 bits: 5x65536"),
+    ("10 5x4294967297", "argument 2: a count of more than 16 bits: 5x4294967297"),
+    ("10 5x18446744073709551617", "argument 2: a count of more than 16 bits: 5x184467440737095516..."),
+    ("10 4294967297x1", "argument 2: a size of more than 32 bits: 4294967297x1"),
+    ("10 18446744073709551617x1", "argument 2: a number of more than 64 bits: 18446744073709551617..."))
+FILES = (("no_sizes.txt", "60"), ("spaces.txt", "60 20 20 20"), ("zeros.txt", "60 20"),
+         ("most_sizes.txt", "60" + 2047 * " 7" + " 61"), ("counts.txt", "60 20x5 31x3 41x2 12"),
+         ("zeros_of_count.txt", "60 20x5"), ("most_counts.txt", "60" + 2047 * " 7x65535" + " 7x0"))
 WRONG_FILES = (
     ("empty.txt", ", line 1: the file ends before a capacity"),
     ("blank.txt", ", line 3: the file ends before a capacity"),
@@ -54,6 +73,9 @@ WRONG_FILES = (
     ("too_many.txt", ", line 2050: more sizes than a job can have: 8"),
     ("long.txt", ", line 2: not a number: " + 20 * "a" + "..."),
     ("digits.txt", ", line 3: a number of more than 64 bits: " + 20 * "9" + "..."),
+    ("count.txt", ", line 3: not a number: 31x"),
+    ("count_bits.txt", ", line 2: a count of more than 16 bits: 20x65536"),
+    ("counted_capacity.txt", ", line 1: not a number: 60x1"),
     ("missing.txt", ": " + os.strerror(errno.ENOENT)),
     ("folder", ", line 1: " + os.strerror(errno.EISDIR)))
 MODEL = tuple(tuple(map(int, line.split())) for line in (FOLDER / "planner_rows.txt").read_text().splitlines())
@@ -83,15 +105,31 @@ WRONG_MODELS = (
     (" coefficient_bits.txt", "coefficient_bits.txt, line 2: a number of more than 32 bits: 4294967296"),
     (" too_many_rows.txt", "too_many_rows.txt, line 65: more rows than a job can have: 11"),
     (" too_many_coefficients.txt", "too_many_coefficients.txt, line 2: more coefficients than a job can have: 8"),
+    (" row_count.txt", "row_count.txt, line 2: not a number: 5x3"),
+    (" right_side_count.txt", "right_side_count.txt, line 1: not a number: 10x1"),
+    (" planner_rows.txt 1 3x1 0", "argument 4: not a number: 3x1"),
     (" missing.txt", "missing.txt: " + os.strerror(errno.ENOENT)))
 
 
-def run_job(kind, capacity, sizes, *steps):
+def pair(word):
+    """A size and its count."""
+    size, x, count = word.partition("x")
+    return int(size), int(count) if x else 1
+
+
+def notation(pairs):
+    return " ".join(f"{size}x{count}" if count != 1 else f"{size}" for size, count in pairs)
+
+
+def run_job(data):
     """The numbers of the answer, and the images."""
     images, working, listed, scales = [0] * 2048, [0] * 2048, [0] * 2047, [0] * 64
-    data = job(kind, capacity, sizes, *(family_step(*step) for step in steps))
     numbers = wf.job(data, images, working, listed, scales)
     return numbers, images[:numbers[1]]
+
+
+def run_cut(capacity, sizes, *steps):
+    return run_job(job(wf.CUT, capacity, sizes, *(family_step(*step) for step in steps)))
 
 
 def greatest_p(capacity, family):
@@ -101,14 +139,14 @@ def greatest_p(capacity, family):
     return 0 if (family, capacity) == (4, 1) else greatest[family]
 
 
-def best_floor(capacity, family, sizes, highest):
+def best_floor(capacity, family, sizes, counts, highest):
     """The largest floor of all legal p from 1 to the highest, and the least p that gives it."""
     legal = (p for p in range(1, highest + 1) if wf.family_refusal(capacity, family, p, 0) == 0)
-    floor, less_p = max((wf.one_step_floor(capacity, family, p, sizes), -p) for p in legal)
+    floor, less_p = max((wf.one_step_floor(capacity, family, p, sizes, counts), -p) for p in legal)
     return floor, -less_p
 
 
-def sweeps(capacity, sizes, without):
+def sweeps(capacity, pairs, without):
     """A line for each family, and the best step."""
     text, best, step = "", without, None
     for number in range(1, 6):
@@ -117,7 +155,7 @@ def sweeps(capacity, sizes, without):
         if greatest == 0:
             text += "no legal p from 1 on\n"
             continue
-        floor, p = best_floor(capacity, number, sizes, min(greatest, MOST_TRIED))
+        floor, p = best_floor(capacity, number, *apart(pairs), min(greatest, MOST_TRIED))
         tried = f"legal p up to {MOST_TRIED} tried, there are more" if greatest > MOST_TRIED else "all legal p tried"
         text += f"p = {p:<5} floor {floor}, {tried}\n"
         if floor > best:
@@ -133,14 +171,22 @@ def inequality(coefficients, right_side):
     return " +".join(f" {value} x{i + 1}" for i, value in enumerate(coefficients)) + f" <= {right_side}\n"
 
 
-def expected(capacity, *sizes):
-    refusal = 1 if capacity >= 2**32 else run_job(1, capacity, sizes)[0][0]
+def listed(capacity, pairs):
+    """The list, with its sizes if they have counts."""
+    sizes = f": {notation(pairs)}" if any(count != 1 for _, count in pairs) else ""
+    return f"capacity {capacity}, {len(pairs)} sizes{sizes}\n"
+
+
+def expected(words):
+    capacity, pairs = int(words[0]), [pair(word) for word in words[1:]]
+    if capacity >= 2**32:
+        return refused(1)
+    refusal, _, without, *_ = run_job(counted_job(capacity, pairs))[0]
     if refusal:
         return refused(refusal)
-    without = run_job(1, capacity, sizes)[0][2]
-    lines, best, step = sweeps(capacity, sizes, without)
-    cut, images = run_job(2, capacity, sizes, *([step] if step else []))
-    text = f"capacity {capacity}, {len(sizes)} sizes\n  {FAMILIES[0]:<19}           floor {without}\n{lines}"
+    lines, best, step = sweeps(capacity, pairs, without)
+    cut, images = run_cut(capacity, apart(pairs)[0], *([step] if step else []))
+    text = listed(capacity, pairs) + f"  {FAMILIES[0]:<19}           floor {without}\n{lines}"
     text += f"best floor {best}: {FAMILIES[step[0]]}, p = {step[1]}\n" if step else f"best floor {best}: no step\n"
     text += "cut:" + inequality(images, cut[4])
     if step:
@@ -156,7 +202,7 @@ def expected_rows(rows, steps):
     if not rows:
         return refused(21)
     for place, (right_side, *coefficients) in enumerate(rows, start=1):
-        cut, images = run_job(2, right_side, coefficients, *steps)
+        cut, images = run_cut(right_side, coefficients, *steps)
         if cut[0]:
             return refused(cut[0], f", row {place}" + (f", step {cut[5]}" if cut[5] else ""))
         text += f"row {place}:" + inequality(coefficients, right_side) + "  cut:" + inequality(images, cut[4])
@@ -165,13 +211,13 @@ def expected_rows(rows, steps):
 
 def runs():
     """The arguments that planner.sh gives, and what is printed."""
-    for line in LISTS + REFUSED:
+    for line in LISTS + COUNTED + REFUSED + REFUSED_COUNTS:
         words = (FOLDER / line).read_text() if line.endswith(".txt") else line
-        yield line, expected(*map(int, words.split()))
+        yield line, expected(words.split())
     for line, message in WRONG_ARGUMENTS:
         yield line, f"planner: {message}\nexit 2\n"
-    for name, numbers in FILES:
-        yield name, expected(*numbers)
+    for name, words in FILES:
+        yield name, expected(words.split())
     for name, message in WRONG_FILES:
         yield name, f"planner: {name}{message}\nexit 2\n"
     for name, rows, steps in MODELS:

@@ -6,8 +6,8 @@ import random
 
 import windowfloor as wf
 from job_bytes import (
-    BAD_STEPS, bad_tables_about_4, changed_value, cut_short, damaged, family, field, head, job, last_only, make,
-    other_lengths, other_tags, random_steps, row, rows_fields, rows_job, table, words)
+    BAD_STEPS, bad_tables_about_4, changed_value, cut_short, damaged, family, field, head, job, last_only, lent,
+    make, other_lengths, other_tags, random_steps, row, rows_fields, rows_job, table, words)
 from table_cases import FAMILY_STEPS, LIMIT, MAX, MOST_PLACES
 
 RANDOM = 100  # of each kind
@@ -219,10 +219,6 @@ def random_rows(rng, right, steps):
             other = right
         rows.append((other,) + tuple(rng.randint(0, other) for _ in range(rng.randint(0, 5))))
     return rows
-
-
-def lent():
-    return [0] * wf.JOB_IMAGES, [0] * wf.JOB_WORKING, [0] * wf.JOB_LIST, [0] * wf.JOB_SCALES
 
 
 def random_fields(rng):

@@ -1,9 +1,10 @@
-"""Writes crates/sweep_cases/stdin (sweep cases: c f low high n k and k runs)
-and crates/sweep_cases/stdout (their answers: number, floor, p). With --check
-it writes nothing and fails if a stored file differs.
+"""Writes crates/sweep_cases/stdin (sweep cases: c f low high n k and k runs,
+then m j and j runs) and crates/sweep_cases/stdout (their answers: number,
+floor, p). With --check it writes nothing and fails if a stored file differs.
 
-The list has n sizes: those of the runs (count, first, step) in turn, each size
-of a run step more than the one before it, mod 2**32, and 0 behind them."""
+The list has n sizes: those of the k runs (count, first, step) in turn, each
+size of a run step more than the one before it, mod 2**32, and 0 behind them. It
+has m counts, made of the j runs in the same way, mod 2**16."""
 
 import itertools
 import random
@@ -12,26 +13,52 @@ import sys
 sys.dont_write_bytecode = True
 import windowfloor as wf
 from case_files import lines, store_or_check
+from job_bytes import apart, random_pairs
 
-RANDOM = 400
+RANDOM, RANDOM_COUNTS = 400, 150
 LIMIT = 1_000_000_000
 MAX, MAX_P = 2**32 - 1, 2**64 - 1
 SIZES, WIDEST = 2048, 4095  # the most sizes, and the most that high is above low
-MOST_SIZES = 2100  # of a case
+MOST_COUNT = 65_535
+MOST_PLACES = 2100  # of a case's sizes, and of its counts
+MOST_BYTES = 262_144  # of all cases
 FAMILIES = (1, 2, 3, 4, 5)
 
 
-def make(capacity, family, low, high, *runs):
-    """A case whose list is that of its runs; a run may leave out its step."""
-    runs = [run + (0,) * (3 - len(run)) for run in runs]
-    n = sum(run[0] for run in runs)
-    return (capacity, family, low, high, n, len(runs)) + sum(runs, ())
+def numbers_in(runs):
+    return sum(run[0] for run in runs)
+
+
+def given(runs):
+    """How many numbers the runs have, and the runs; one may leave out its step."""
+    whole = [run + (0,) * (3 - len(run)) for run in runs]
+    return (numbers_in(runs), len(runs)) + sum(whole, ())
+
+
+def ones(n):
+    """The runs of n counts of 1."""
+    return [(n, 1)] if n > 0 else []
+
+
+def make(capacity, family, low, high, *runs, counts=None):
+    """A case whose sizes are those of their runs, and its counts those of theirs; if these are left out, each is 1."""
+    counts = ones(numbers_in(runs)) if counts is None else counts
+    return (capacity, family, low, high) + given(runs) + given(counts)
+
+
+def runs_of(numbers):
+    return [(len(list(group)), number) for number, group in itertools.groupby(numbers)]
 
 
 def of(capacity, family, low, high, *sizes):
-    """A case of these sizes."""
-    groups = [(len(list(group)), size) for size, group in itertools.groupby(sizes)]
-    return make(capacity, family, low, high, *groups)
+    """A case of these sizes, each counted once."""
+    return make(capacity, family, low, high, *runs_of(sizes))
+
+
+def counted(capacity, family, low, high, *pairs):
+    """A case of these pairs of a size and its count."""
+    sizes, numbers = apart(pairs)
+    return make(capacity, family, low, high, *runs_of(sizes), counts=runs_of(numbers))
 
 
 def reckoned():
@@ -44,13 +71,11 @@ def reckoned():
 
 def form():
     """Runs that do not fill the list, runs behind its end, and no run."""
-    yield (10, 1, 0, 5, 3, 1, 2, 7, 0)
-    yield (10, 1, 0, 5, 2, 2, 2, 7, 0, 9, 0, 0)
-    yield (10, 1, 0, 5, 3, 0)
-    yield (10, 1, 0, 5, 3, 1, 99, 2, 1)
+    for listed in ((3, 1, 2, 7, 0), (2, 2, 2, 7, 0, 9, 0, 0), (3, 0), (3, 1, 99, 2, 1)):
+        yield (10, 1, 0, 5) + listed + given(ones(listed[0]))
 
 
-FAULTS = (  # each makes a refused case of the accepted one in faults()
+FAULTS = (  # each makes a refused case of the accepted one in pairs_of
     dict(capacity=0), dict(capacity=LIMIT + 1), dict(capacity=MAX_P),
     dict(family=0), dict(family=6), dict(family=7), dict(family=255),
     dict(runs=((SIZES + 1, 3),)), dict(runs=((SIZES, 3), (1, 0))), dict(runs=((3, 4), (1, 0))),
@@ -59,14 +84,18 @@ FAULTS = (  # each makes a refused case of the accepted one in faults()
     dict(low=0, high=MAX_P), dict(low=6, high=6 + WIDEST), dict(low=MAX_P, high=MAX_P))
 
 
-def faults():
-    """Each refusal alone and each pair of faults, so that their order shows."""
-    for pair in itertools.combinations_with_replacement(FAULTS, 2):
-        case = dict(capacity=10, family=1, low=1, high=3, runs=((3, 4),))
+def pairs_of(faults):
+    """Each fault alone and each pair of them, so that their order shows."""
+    for pair in itertools.combinations_with_replacement(faults, 2):
+        case = dict(capacity=10, family=1, low=1, high=3, runs=((3, 4),), counts=ones)
         for fault in pair:
             case.update(fault)
-        runs = case.pop("runs")
-        yield make(case["capacity"], case["family"], case["low"], case["high"], *runs)
+        runs, counts = case["runs"], case["counts"](numbers_in(case["runs"]))
+        yield make(case["capacity"], case["family"], case["low"], case["high"], *runs, counts=counts)
+
+
+def faults():
+    yield from pairs_of(FAULTS)
 
 
 def ranges():
@@ -125,32 +154,43 @@ def ties():
         yield make(60, family, 0, 60)
 
 
-def list_leaving(rng, capacity, family, p, left):
-    """A list whose images sum to so many more than a multiple of the scale."""
+def leaving(draw, capacity, family, p, left):
+    """Pairs, drawn until their images sum to so many more than a multiple of the scale."""
     scale = wf.family_scale(capacity, family, p, 0)
     while True:
-        sizes = [rng.randint(1, capacity) for _ in range(rng.randint(2, 9))]
-        if (sum(wf.family_image(capacity, family, p, 0, x) for x in sizes) - left) % scale == 0:
-            return sizes
+        pairs = draw()
+        total = sum(count * wf.family_image(capacity, family, p, 0, size) for size, count in pairs)
+        if (total - left) % scale == 0:
+            return pairs
+
+
+def rounded(draw):
+    """Floors of one p whose sum is a multiple of the scale, and next to one: family 2 has sums by 12 alone here."""
+    for family, p, by in ((1, 0, 1), (1, 20, 1), (2, 7, 12), (3, 7, 1), (4, 8, 1), (5, 7, 1)):
+        for left in (0, by, -by):
+            yield counted(96, family, p, p, *leaving(draw, 96, family, p, left))
 
 
 def roundings():
-    """Floors of one p whose sum is a multiple of the scale, and next to one: family 2 has sums by 12 alone here."""
+    """Also of the most sizes."""
     rng = random.Random(60_000)
-    for family, p, by in ((1, 0, 1), (1, 20, 1), (2, 7, 12), (3, 7, 1), (4, 8, 1), (5, 7, 1)):
-        for left in (0, by, -by):
-            yield of(96, family, p, p, *list_leaving(rng, 96, family, p, left))
+    yield from rounded(lambda: [(rng.randint(1, 96), 1) for _ in range(rng.randint(2, 9))])
     for last in (1, LIMIT - 1):
         yield make(LIMIT, 1, 0, 0, (SIZES - 1, LIMIT), (1, last))
+
+
+def random_range(rng):
+    """Capacity, family, low and high."""
+    capacity = rng.randint(1, rng.choice((12, 60, 1000, LIMIT)))
+    family = rng.choice(FAMILIES)
+    low = rng.choice((0, 1, rng.randint(0, capacity), capacity // rng.randint(1, 9)))
+    return capacity, family, low, low + rng.choice((0, 1, 7, 40, 300))
 
 
 def random_cases():
     rng = random.Random(40_000)
     for _ in range(RANDOM):
-        capacity = rng.randint(1, rng.choice((12, 60, 1000, LIMIT)))
-        family = rng.choice(FAMILIES)
-        low = rng.choice((0, 1, rng.randint(0, capacity), capacity // rng.randint(1, 9)))
-        high = low + rng.choice((0, 1, 7, 40, 300))
+        capacity, family, low, high = random_range(rng)
         sizes = [rng.randint(1, capacity) for _ in range(rng.randint(0, 9))]
         if rng.randint(0, 1):
             near = capacity // rng.randint(1, 5)
@@ -158,33 +198,166 @@ def random_cases():
         yield of(capacity, family, low, high, *sizes)
 
 
+# Counts
+
+COUNT_FAULTS = (  # the runs of counts for n sizes
+    dict(counts=lambda n: ()), dict(counts=lambda n: ones(n - 1)), dict(counts=lambda n: ones(n + 1)),
+    dict(counts=lambda n: ((n - 2, 1), (1, 0))), dict(counts=lambda n: ((n, 1), (1, 0))),
+    dict(counts=lambda n: ((1, 0), (n - 1, 7))), dict(counts=lambda n: ((n - 1, 7), (1, 0))))
+
+
+def faults_of_counts():
+    """Too few or too many, with and without one of 0, and as many with one of 0."""
+    yield from pairs_of(FAULTS + COUNT_FAULTS)
+
+
+def reckoned_counts():
+    """Those of 01, their equal sizes counted, and a block of identical meters."""
+    for family in FAMILIES:
+        for low, high in ((0, 12), (3, 3), (6, 10)):
+            yield counted(10, family, low, high, (7, 2), (5, 3))
+            yield counted(10, family, low, high, (6, 3))
+            yield counted(10, family, low, high, (5, 300))
+
+
+def form_of_counts():
+    """Runs that do not fill the counts, runs behind their end, no run, and numbers of more than 16 bits."""
+    for listed in ((3, 1, 2, 7, 0), (3, 2, 3, 7, 2, 9, 0, 0), (3, 0), (3, 1, 99, 2, 1), (3, 1, 3, 65_536, 0),
+                   (3, 1, 3, 65_537, 0), (3, 1, 3, 65_535, 1), (3, 1, 3, 65_534, 1), (3, 1, 3, 300, 65_437),
+                   (3, 1, 3, MAX, 0), (3, 2, 1, 5, 0, 2, 131_072, 1)):
+        yield (10, 1, 0, 5) + given([(3, 6)]) + listed
+
+
+def numbers_of_both():
+    """As many sizes and as many counts as may be, and more; counts of an empty list; the most of both."""
+    for n, m in itertools.product((0, 1, 2, SIZES - 1, SIZES, SIZES + 1, MOST_PLACES), repeat=2):
+        yield make(60, 1, 1, 3, (n, 31), counts=[(m, 2)])
+    for family in FAMILIES:
+        yield make(60, family, 1, 31, counts=[(1, 0)])
+        yield make(60, family, 1, 31, counts=[(SIZES, 1)])
+        yield make(60, family, 1, 31, (SIZES, 31), counts=[(SIZES, 1, 2)])
+
+
+def zeros():
+    """A count of 0 at the first, middle and last place of a few and of many."""
+    for n in (1, 2, 3, 9, SIZES):
+        for place in sorted({0, n // 2, n - 1}):
+            for other in (1, 256):
+                numbers = [(place, other), (1, 0), (n - 1 - place, other)]
+                yield make(60, 3, 1, 20, (n, 31), counts=numbers)
+
+
+def limits_of_counts():
+    """Counts at their limits and about a byte's, alone and two together."""
+    for family in FAMILIES:
+        for count in (1, 2, 255, 256, 257, 32_768, MOST_COUNT):
+            yield counted(60, family, 1, 30, (31, count))
+        for first, second in itertools.product((1, 2, MOST_COUNT), repeat=2):
+            yield counted(60, family, 1, 30, (31, first), (22, second))
+
+
+def largest_sums():
+    """The most sizes of the greatest capacity, each counted the most, and sums next to it."""
+    lasts = (LIMIT, MOST_COUNT), (LIMIT, MOST_COUNT - 1), (LIMIT - 1, 1)
+    for family, (size, count) in itertools.product(FAMILIES, lasts):
+        sizes, numbers = ((SIZES - 1, LIMIT), (1, size)), ((SIZES - 1, MOST_COUNT), (1, count))
+        yield make(LIMIT, family, 1, 3, *sizes, counts=numbers)
+    for family, p in ((3, 2), (4, LIMIT // 2 + 1), (5, LIMIT)):  # of the greatest scale
+        yield make(LIMIT, family, p, p, (SIZES, LIMIT), counts=[(SIZES, MOST_COUNT)])
+
+
+def neighbours():
+    """Counts that differ from size to size, so that one of another size shows."""
+    numbers = (1, 10, 100, 1000, 10_000)
+    for family, turn in itertools.product(FAMILIES, range(5)):
+        yield counted(60, family, 2, 30, *zip((7, 20, 31, 44, 59), numbers[turn:] + numbers[:turn]))
+    for family in FAMILIES:
+        yield make(700, family, 2, 40, (600, 101, 1), counts=[(600, 1, 109)])
+
+
+def some_pairs(rng, capacity):
+    return random_pairs(rng, capacity, rng.randint(2, 6), rng.choice((3, 300, MOST_COUNT)))
+
+
+def leading(capacity, family, sizes, counts, low, high):
+    """Every p that has the largest floor."""
+    floors = {p: wf.one_step_floor(capacity, family, p, sizes, counts) for p in range(low, high + 1)
+              if wf.family_refusal(capacity, family, p, 0) == wf.ACCEPTED}
+    return [p for p, floor in floors.items() if floor == max(floors.values())]
+
+
+def breaks_tie(without, found):
+    """The least p with counts is a later one of those that share the floor without."""
+    return found[0] in without[1:]
+
+
+def makes_tie(without, found):
+    """The least p without counts is a later one of those that share the floor with them."""
+    return without[0] in found[1:]
+
+
+def pairs_that(rng, decide, capacity, family, low, high):
+    """Pairs whose counts decide so."""
+    while True:
+        pairs = some_pairs(rng, capacity)
+        sizes, counts = apart(pairs)
+        without = leading(capacity, family, sizes, [1] * len(sizes), low, high)
+        if decide(without, leading(capacity, family, sizes, counts, low, high)):
+            return pairs
+
+
+def decided_by_counts():
+    """For each family ties that counts break and make."""
+    rng = random.Random(70_000)
+    for family, decide in itertools.product(FAMILIES, (breaks_tie, makes_tie) * 3):
+        yield counted(60, family, 1, 30, *pairs_that(rng, decide, 60, family, 1, 30))
+
+
+def roundings_of_counts():
+    rng = random.Random(90_000)
+    yield from rounded(lambda: some_pairs(rng, 96))
+
+
+def random_counts():
+    rng = random.Random(80_000)
+    for _ in range(RANDOM_COUNTS):
+        capacity, family, low, high = random_range(rng)
+        yield counted(capacity, family, low, high, *some_pairs(rng, capacity))
+
+
 def all_cases():
     """Each case once, in the order of its first making."""
     cases = {}
-    for part in (reckoned, form, faults, ranges, last_alone, limits, counts, ties, roundings,
-                 random_cases):
+    for part in (reckoned, form, faults, ranges, last_alone, limits, counts, ties, roundings, random_cases,
+                 faults_of_counts, reckoned_counts, form_of_counts, numbers_of_both, zeros, limits_of_counts,
+                 largest_sums, neighbours, decided_by_counts, roundings_of_counts, random_counts):
         cases.update(dict.fromkeys(part()))
     return list(cases)
 
 
-def sizes_of(case):
-    n, k, runs = case[4], case[5], case[6:]
-    assert n <= MOST_SIZES and len(runs) == 3 * k
-    sizes = []
+# Answers
+
+def list_of(n, k, runs, bits):
+    """The n numbers of a case's runs, of so many bits."""
+    assert n <= MOST_PLACES and len(runs) == 3 * k
+    numbers = []
     for count, first, step in zip(runs[::3], runs[1::3], runs[2::3]):
-        sizes += [(first + i * step) % 2**32 for i in range(count)]
-    return (sizes + [0] * n)[:n]
+        numbers += [(first + i * step) % 2**bits for i in range(count)]
+    return (numbers + [0] * n)[:n]
 
 
 def answer(case):
-    capacity, family, low, high = case[:4]
-    return wf.sweep(capacity, family, sizes_of(case), low, high)
+    capacity, family, low, high, n, k = case[:6]
+    end = 6 + 3 * k
+    m, j = case[end:end + 2]
+    sizes, counts = list_of(n, k, case[6:end], 32), list_of(m, j, case[end + 2:], 16)
+    return wf.sweep(capacity, family, sizes, counts, low, high)
 
 
 def main():
     cases = all_cases()
     stdin = lines(cases)
-    assert len(stdin) <= 65_536
+    assert len(stdin) <= MOST_BYTES
     return store_or_check("sweep_cases", stdin, lines(map(answer, cases)))
 
 

@@ -117,12 +117,28 @@ class Jobs(unittest.TestCase):
         self.assertTrue(any(row > 1 and step > 0 for _, row, step in refused))
         self.assertTrue(any(data[0] != wf.KIND for data in refused.values()))
 
+    def test_cases_of_counts(self):
+        """Jobs with counts: accepted with and without a step, and each refusal that counts can bring."""
+        counted = [(data, printed) for data, printed in self.cases() if re.search(rb"\x07\x00[\x00-\x08]", data)]
+        self.assertTrue(any(printed.startswith("floor") and b"\4\0\x09" in data for data, printed in counted))
+        refused = {int(printed.split()[1]) for _, printed in counted if "refused" in printed}
+        self.assertLessEqual({14, 15, 17, 22}, refused)
+
     def test_tags(self):
         documented = [row for row in rows(section("4.1 ")) if row[0].isdigit()]
-        self.assertEqual([int(row[0]) for row in documented], list(range(wf.KIND, wf.ROW + 1)))
-        for tag, cell, _ in documented:
+        self.assertEqual([int(row[0]) for row in documented], list(range(wf.KIND, wf.COUNTS + 1)))
+        for tag, cell, _ in documented[:-1]:
             due = {length for length in range(65_536) if wf.length_right(int(tag), length)}
             self.assertEqual(right_lengths(cell), due, tag)
+
+    def test_lengths_of_counts(self):
+        """The length of tag 7 in 4.1 is so many bytes for each size."""
+        tag, cell, _ = [row for row in rows(section("4.1 ")) if row[0].isdigit()][-1]
+        factor = int(re.fullmatch(r"(\d) × n, for the n of the tag 3 field", cell).group(1))
+        for n in (0, 1, 2, 100):
+            before = [(wf.SIZES, bytes(4 * n))]
+            due = [length for length in range(4 * n + 9) if wf.length_right(int(tag), length, before)]
+            self.assertEqual([factor * n], due)
 
     def test_kinds(self):
         """The kinds that 4.1 names are those that can be accepted."""
@@ -180,7 +196,7 @@ class Names(unittest.TestCase):
             name = row[1].strip("`")
             self.assertEqual((in_header[name], getattr(wf, name)), (row[0], int(row[0])))
         last = int(re.search(r"#define WINDOWFLOOR_LAST_REFUSAL (\d+)", HEADER).group(1))
-        self.assertEqual(last, wf.BAD_ROWS)
+        self.assertEqual(last, wf.COUNT_0)
         self.assertEqual([int(row[0]) for row in documented], list(range(1, last + 1)))
 
     def test_limits(self):

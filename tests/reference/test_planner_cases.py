@@ -1,14 +1,16 @@
 """Tests of what examples/planner.c takes for granted: from 1 on, the p of a
 family that are legal with a scale within the limit are one run of numbers that
-begins with 1 or 2, or there are none. And of what planner_cases.py takes for
-granted: a job of rows gives the cuts of as many jobs of one row."""
+begins with 1 or 2, or there are none. Of what planner_cases.py takes for
+granted: a job of rows gives the cuts of as many jobs of one row. And of lists
+with counts, which have the floors of all their copies."""
 
 import unittest
 from unittest import mock
 
 import windowfloor as wf
-from job_cases import family, field
-from planner_cases import MODEL, MODELS, expected_rows, greatest_p, run_job
+from job_bytes import counted_job, family, field
+from planner_cases import (
+    COUNTED, FILES, MODEL, MODELS, expected, expected_rows, greatest_p, notation, pair, run_cut, run_job, sweeps)
 
 FAMILIES = range(1, 6)
 
@@ -71,7 +73,7 @@ row 4: 6 x1 + 3 x2 <= 7
 
     def check(self, rows, steps):
         numbers, images, scales = run_rows(rows, steps)
-        cuts = [run_job(2, right_side, coefficients, *steps) for right_side, *coefficients in rows]
+        cuts = [run_cut(right_side, coefficients, *steps) for right_side, *coefficients in rows]
         first = next((place for place, (cut, _) in enumerate(cuts, start=1) if cut[0]), 0)
         if first == 0:
             self.assertEqual(images, sum((of_row for _, of_row in cuts), []))
@@ -84,6 +86,36 @@ row 4: 6 x1 + 3 x2 <= 7
             if rows:
                 with self.subTest(name=name, steps=steps):
                     self.check(rows, steps)
+
+
+class Counts(unittest.TestCase):
+    def test_reckoned_by_hand(self):
+        """Family 1 with p = 5 turns 6 into 10 and 4 into 0, so each copy of 6 needs a window of its own; without a
+        step the sum is 255 x 6 + 256 x 6 + 4 = 3,070."""
+        text = expected("10 6x255 6x256 4".split()).splitlines()
+        self.assertEqual(text[:3], ["capacity 10, 3 sizes: 6x255 6x256 4",
+                                    "  no step                       floor 307",
+                                    "  threshold           p = 5     floor 511, all legal p tried"])
+        self.assertEqual(text[7:9], ["best floor 511: threshold, p = 5", "cut: 10 x1 + 10 x2 + 0 x3 <= 10"])
+
+    def floors(self, capacity, pairs):
+        """What is printed of a list's floors."""
+        without = run_job(counted_job(capacity, pairs))[0][2]
+        return without, sweeps(capacity, pairs, without)
+
+    def test_copies_in_the_place_of_counts(self):
+        for line in ("10 7x2 5x3", "100 51x2 34x3 26x4", "60 20x5 31x3 41x2 12"):
+            capacity, *words = line.split()
+            pairs = [pair(word) for word in words]
+            copies = [(size, 1) for size, count in pairs for _ in range(count)]
+            with self.subTest(line=line):
+                self.assertIn(line, COUNTED + tuple(words for _, words in FILES))
+                self.assertEqual(self.floors(int(capacity), pairs), self.floors(int(capacity), copies))
+
+    def test_notation(self):
+        """It shows what it reads, without a count of 1."""
+        self.assertEqual([pair("5"), pair("5x1"), pair("5x300")], [(5, 1), (5, 1), (5, 300)])
+        self.assertEqual(notation([(5, 1), (5, 300), (7, 0)]), "5 5x300 7x0")
 
 
 if __name__ == "__main__":

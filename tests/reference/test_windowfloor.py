@@ -1,7 +1,7 @@
 """Tests of the reference: the examples of the scope document ("01"), values
-reckoned by hand from it and from the change requests for many rows and for
-tables of another capacity ("02", tickets 1 and 2), and brute force over small
-capacities."""
+reckoned by hand from it and from the change requests for many rows, for tables
+of another capacity and for counts ("02", tickets 1, 2 and 4), and brute force
+over small capacities."""
 
 import random
 import unittest
@@ -9,7 +9,8 @@ from functools import lru_cache
 
 import windowfloor as wf
 from job_bytes import (
-    bad_tables, family as family_step, field, job as make_job, row, rows_job, table as table_step, word)
+    apart, bad_tables, counted_job, counts, family as family_step, field, job as make_job, random_pairs, row, rows_job,
+    table as table_step, word, written_out)
 
 LIMIT = 1_000_000_000
 MARK = 77  # fills places that have to stay
@@ -624,6 +625,153 @@ class OtherCapacity(Refusals):
             self.assertEqual(wf.program(rows_job([(10, 3)], IDENTITY, table)), b"refused 18 1 2\n")
 
 
+class CountGrammar(Refusals):
+    """02, ticket 4: tag 7 comes right after tag 3 where the kind byte is 1, with two bytes for each size."""
+
+    def test_places(self):
+        head, good, step = make_job(1, 10, [7, 5]), counts(2, 3), family_step(1, 3)
+        self.refusals([
+            (head + good + good, refused(14)), (head + good + counts(), refused(14)), (head + step + good, refused(14)),
+            (head + good + step + good, refused(14)), (good + head, refused(14)), (head[:4] + good, refused(14)),
+            (head[:4] + good + head[4:], refused(14)), (head[:11] + good, refused(14)),
+            (head[:11] + good + head[11:], refused(14)), (head + good + head[:4], refused(14)),
+            (head + good + row(10, 5), refused(14)), (head + good + step * 9, refused(14)),
+            (head + good[:1], refused(13)), (head + good[:2], refused(13)), (head + good[:-1], refused(13)),
+            (head + field(7, b"", 65_535), refused(13)), (head + step + good[:-1], refused(13)),
+            (head + good + good[:-1], refused(13)), (head[:11] + good[:-1], refused(13))])
+        self.assertEqual(answer(head + good + step * 8), (0, 2, 3, 29, 10, 0, 0, 0))
+
+    def test_other_kinds(self):
+        """Whatever its length, and also where 16 or 21 would come."""
+        for kind in (0, 2, 4, 6, 7, 255):
+            head = make_job(kind, 10, [5])
+            self.refusals([(head + counts(1), refused(14)), (head + counts(), refused(14)),
+                           (head + counts(1) + family_step(1, 3), refused(14)), (head + counts(1)[:-1], refused(13)),
+                           (make_job(kind, 10, []) + counts(), refused(14))])
+        for end in (counts(), counts(1), row(10, 5) + counts(1), row(10, 5) + counts() + row(10, 5),
+                    row(10, 5) + family_step(1, 3) + counts(1)):
+            self.refusals([(KIND_3 + end, refused(14))])
+
+    def test_lengths(self):
+        """Every count that passes is 257: with n sizes of 5 the sum is 1285 n."""
+        floors = 0, 129, 257, 386
+        for n, floor in enumerate(floors):
+            for length in range(17):
+                data = make_job(1, 10, [5] * n, field(7, b"\1" * length))
+                expected = (0, n, floor, 1285 * n, 10, 0, 0, 0) if length == 2 * n else refused(15)
+                with self.subTest(n=n, length=length):
+                    self.assertEqual(answer(data), expected)
+        for length in (4094, 4095, 4097, 4098, 8192):
+            self.refusals([(make_job(1, 10, [5] * 2048, field(7, b"\1" * length)), refused(15))])
+
+
+class Counts(Refusals):
+    """02, ticket 4: each size goes with its count."""
+
+    def test_reckoned(self):
+        to_six = family_step(1, 4), family_step(3, 3)  # the images 6 of 7 and 3 of 5, at scale 6
+        levels = table_step(0, 1, 1, 1, 1, 5)
+        for capacity, pairs, steps, floor, total, scale in [
+                (10, [(7, 2), (5, 3)], to_six, 4, 21, 6), (10, [(5, 3), (7, 2)], to_six, 4, 21, 6),
+                (10, [(7, 3), (5, 2)], to_six, 4, 24, 6), (10, [(7, 1), (7, 1), (5, 3)], to_six, 4, 21, 6),
+                (10, [(6, 3)], (), 2, 18, 10), (10, [(6, 3)], (family_step(1, 5),), 3, 30, 10),
+                (10, [(5, 300)], (), 150, 1500, 10), (10, [(5, 300), (1, 1)], (), 151, 1501, 10),
+                (10, [(1, 256), (3, 1)], (), 26, 259, 10), (10, [(1, 1), (3, 256)], (), 77, 769, 10),
+                (10, [(1, 255), (3, 65_280)], (), 19_610, 196_095, 10),
+                (10, [(1, 1), (3, 10), (6, 100), (8, 1000), (10, 10_000)], (), 10_864, 108_631, 10),
+                (5, [(1, 7), (4, 9), (5, 2)], (levels,), 6, 26, 5),
+                (5, [(1, 7), (4, 9), (5, 2)], (levels, family_step(2, 1)), 2, 10, 5),
+                (10, [], to_six, 0, 0, 6)]:
+            with self.subTest(pairs=pairs, steps=steps):
+                self.assertEqual(answer(counted_job(capacity, pairs, *steps)),
+                                 (0, len(pairs), floor, total, scale, 0, 0, 0))
+
+    def test_largest_sum(self):
+        """134,215,680 copies are 2,048 times 65,535."""
+        largest = 0, 2048, 134_215_680, 134_215_680 * LIMIT, LIMIT, 0, 0, 0
+        self.assertEqual(answer(counted_job(LIMIT, [(LIMIT, 65_535)] * 2048)), largest)
+        self.assertEqual(answer(counted_job(1, [(1, 65_535)] * 2048, table_step(0, LIMIT))), largest)
+
+    def test_places_that_stay(self):
+        """One image for each size."""
+        images, working, lst, scales = buffers()
+        data = counted_job(10, [(7, 300), (5, 2), (7, 1)], family_step(1, 4))
+        self.assertEqual(wf.job(data, images, working, lst, scales), (0, 3, 302, 3020, 10, 0, 0, 0))
+        self.assertEqual(images, [10, 5, 10] + [MARK] * 2047)
+        self.assertEqual((lst, scales), ([MARK] * PLACES, [MARK] * 66))
+
+    def test_counts_of_0(self):
+        step = family_step(1, 3)
+        for numbers in ((0, 2, 3), (1, 0, 3), (1, 2, 0), (0, 0, 0), (256, 0, 1)):
+            pairs = list(zip((7, 5, 3), numbers))
+            self.refusals([(counted_job(10, pairs), refused(22)), (counted_job(10, pairs, step), refused(22))])
+        self.refusals([(counted_job(10, [(5, 1)] * 2047 + [(5, 0)]), refused(22))])
+        self.assertEqual(answer(counted_job(10, [(7, 256), (5, 1)]))[0], 0)
+
+    def test_what_comes_before(self):
+        """Also a size that is wrong behind the count."""
+        step = family_step(1, 3)
+        start = counted_job(10, [(5, 0)])
+        self.refusals([
+            (counted_job(0, [(5, 0)]), refused(1)), (counted_job(LIMIT + 1, [(5, 0)]), refused(1)),
+            (counted_job(10, [(11, 0)]), refused(17)), (counted_job(10, [(0, 0)]), refused(17)),
+            (counted_job(10, [(5, 0), (5, 2), (11, 1)]), refused(17)),
+            (counted_job(10, [(5, 0), (0, 2)]), refused(17)), (counted_job(10, [(0, 2), (5, 0)]), refused(17)),
+            (start + b"\4", refused(13)), (start + step[:-1], refused(13)), (start + counts(0), refused(14)),
+            (start + step * 9, refused(14)), (start + field(4, bytes(8)), refused(15)),
+            (start + step + field(5, bytes(4)), refused(15))])
+        self.assertEqual(wf.job(start, [0] * 2047, [0] * 2048, [0] * 2047, [0] * 64), refused(7))
+
+    def test_what_comes_behind(self):
+        """Every sort of refused step."""
+        bad = (family_step(8, 0), family_step(1, 6), family_step(2, LIMIT), table_step(0, 1)) + bad_tables(10)
+        for number, step in zip((2, 3, 4, 18, 8, 9, 10, 11), bad, strict=True):
+            self.assertEqual(answer(counted_job(10, [(7, 2), (5, 1)], step))[0], number)
+            self.refusals([(counted_job(10, [(7, 2), (5, 0)], step), refused(22))])
+
+    def test_refused_steps(self):
+        """Counts are no step: they take none's place and number."""
+        ok = family_step(1, 3)
+        self.refusals([
+            (counted_job(10, [(5, 9)], family_step(8, 0)), refused(2, 1)),
+            (counted_job(10, [(5, 9)], *[ok] * 7, family_step(8, 0)), refused(2, 8)),
+            (counted_job(10, [(5, 9)], ok, table_step(0, 1, *[0] * 8, 2)), refused(11, 2, 10))])
+
+    def test_texts(self):
+        self.assertEqual(wf.program(counted_job(10, [(7, 2), (5, 3)], family_step(1, 4), family_step(3, 3))),
+                         b"floor 4\nsum 21\nscale 6\nimages 6 3\n")
+        self.assertEqual(wf.program(counted_job(10, [])), b"floor 0\nsum 0\nscale 10\nimages\n")
+        self.assertEqual(wf.program(counted_job(10, [(5, 0)], family_step(8, 0))), b"refused 22 0\n")
+
+    def random_parts(self, rng):
+        capacity = rng.randint(1, 12)
+        return capacity, random_pairs(rng, capacity, rng.randint(0, 4), 4), random_chain(rng, capacity)
+
+    def test_as_copies_written_out(self):
+        """Floor, sum and scale are the same, and the floor is no more than the fewest windows of all copies."""
+        rng = random.Random(7)
+        for _ in range(250):
+            capacity, pairs, steps = self.random_parts(rng)
+            copies = written_out(pairs)
+            found, due = answer(counted_job(capacity, pairs, *steps)), answer(make_job(1, capacity, copies, *steps))
+            with self.subTest(capacity=capacity, pairs=pairs, steps=steps):
+                self.assertEqual(found[:2], (0, len(pairs)))
+                self.assertEqual(found[2:], due[2:])
+                if len(copies) <= 6:
+                    self.assertLessEqual(found[2], least_windows(copies, capacity))
+
+    def test_ones_as_no_counts(self):
+        """Also what the buffers hold."""
+        rng = random.Random(8)
+        for _ in range(150):
+            capacity, pairs, steps = self.random_parts(rng)
+            sizes = [size for size, _ in pairs]
+            with_ones, without = buffers(), buffers()
+            self.assertEqual(wf.job(counted_job(capacity, [(size, 1) for size in sizes], *steps), *with_ones),
+                             wf.job(make_job(1, capacity, sizes, *steps), *without))
+            self.assertEqual(with_ones, without)
+
+
 class RowTexts(unittest.TestCase):
     """02, ticket 1: what the program prints for kind 3, and where the fourth byte is 3."""
 
@@ -658,32 +806,64 @@ class Sweeps(unittest.TestCase):
         rng = random.Random(4)
         for _ in range(300):
             capacity, family = rng.randint(1, 15), rng.randint(1, 5)
-            sizes = [rng.randint(1, capacity) for _ in range(rng.randint(0, 6))]
+            pairs = random_pairs(rng, capacity, rng.randint(0, 6), rng.choice((1, 5, 65_535)))
             low = rng.randint(0, 8)
             high = low + rng.randint(0, 12)
             expected = (20, 0, 0)
             for p in range(low, high + 1):
-                number, _, floor, *_ = answer(
-                    make_job(1, capacity, sizes, family_step(family, p)))
+                number, _, floor, *_ = answer(counted_job(capacity, pairs, family_step(family, p)))
                 if number == 0 and (expected[0] == 20 or floor > expected[1]):
                     expected = (0, floor, p)
-            self.assertEqual(wf.sweep(capacity, family, sizes, low, high), expected)
+            self.assertEqual(wf.sweep(capacity, family, *apart(pairs), low, high), expected)
 
     def test_refusals(self):
+        """02, ticket 4: 6 also for too few or too many counts, 22 between 17 and 19."""
         for case, number in [
-                ((0, 6, [0] * 2049, 1, 0), 1), ((LIMIT + 1, 1, [], 0, 0), 1),
-                ((10, 6, [0] * 2049, 1, 0), 2), ((10, 0, [], 0, 0), 2),
-                ((10, 1, [0] * 2049, 1, 0), 6), ((10, 1, [0], 1, 0), 17),
-                ((10, 1, [11], 1, 0), 17), ((10, 1, [], 1, 0), 19),
-                ((10, 1, [], 0, 4096), 19), ((10, 1, [], 6, 4101), 20),
-                ((10, 2, [], LIMIT + 1, LIMIT + 5), 20),
-                ((10, 1, [], 2**64 - 1, 2**64 - 1), 20)]:
-            with self.subTest(case=case[:2] + case[3:]):
+                ((0, 6, [0] * 2049, [0], 1, 0), 1), ((LIMIT + 1, 1, [], [], 0, 0), 1),
+                ((10, 6, [0] * 2049, [0] * 2049, 1, 0), 2), ((10, 6, [0], [], 1, 0), 2), ((10, 0, [], [], 0, 0), 2),
+                ((10, 1, [0] * 2049, [0] * 2049, 1, 0), 6), ((10, 1, [5] * 2049, [1] * 2049, 1, 3), 6),
+                ((10, 1, [5] * 2049, [1] * 2048, 1, 3), 6), ((10, 1, [5] * 2048, [1] * 2049, 1, 3), 6),
+                ((10, 1, [0], [], 1, 0), 6), ((10, 1, [0], [0, 0], 1, 0), 6), ((10, 1, [], [1], 1, 3), 6),
+                ((10, 1, [5, 5], [1], 1, 3), 6), ((10, 1, [5, 5], [1] * 3, 1, 3), 6), ((10, 1, [5, 5], [0], 1, 3), 6),
+                ((10, 1, [0], [0], 1, 0), 17), ((10, 1, [11], [1], 1, 0), 17), ((10, 1, [5, 11], [0, 1], 1, 0), 17),
+                ((10, 1, [5], [0], 1, 0), 22), ((10, 1, [5, 5], [0, 1], 0, 4096), 22),
+                ((10, 1, [5, 5], [1, 0], 6, 6), 22), ((10, 1, [5, 5, 5], [1, 0, 1], 1, 3), 22),
+                ((10, 1, [5], [1], 1, 0), 19), ((10, 1, [], [], 1, 0), 19),
+                ((10, 1, [], [], 0, 4096), 19), ((10, 1, [], [], 6, 4101), 20),
+                ((10, 2, [], [], LIMIT + 1, LIMIT + 5), 20),
+                ((10, 1, [], [], 2**64 - 1, 2**64 - 1), 20)]:
+            capacity, family, sizes, numbers, low, high = case
+            with self.subTest(case=(capacity, family, sizes[:3], numbers[:3], low, high)):
                 self.assertEqual(wf.sweep(*case), (number, 0, 0))
 
     def test_empty_list(self):
-        self.assertEqual(wf.sweep(10, 1, [], 0, 4095), (0, 0, 0))
-        self.assertEqual(wf.sweep(10, 4, [], 0, 9), (0, 0, 2))
+        self.assertEqual(wf.sweep(10, 1, [], [], 0, 4095), (0, 0, 0))
+        self.assertEqual(wf.sweep(10, 4, [], [], 0, 9), (0, 0, 2))
+
+    def test_counts_reckoned(self):
+        """Family 1 at capacity 10: 6 stays up to p = 4 and is 10 at 5; 7 is 10 from 4 on; 4 stays up to 4 and is then
+        0. So with counts a of 4 and b of 7 the sums are 4a + 7b up to p = 3, 4a + 10b at 4 and 10b at 5."""
+        for sizes, numbers, expected in [
+                ([6], [1], (0, 1, 0)), ([6], [3], (0, 3, 5)), ([6, 6], [1, 2], (0, 3, 5)),
+                ([4, 7], [1, 1], (0, 2, 0)), ([4, 7], [1, 2], (0, 3, 4)), ([4, 7], [2, 1], (0, 2, 0)),
+                ([4, 7], [6, 1], (0, 4, 0)), ([7, 4], [6, 1], (0, 7, 4)), ([4, 7], [300, 1], (0, 121, 0)),
+                ([4, 7], [1, 300], (0, 301, 4)), ([4, 7], [65_535, 65_535], (0, 91_749, 4))]:
+            with self.subTest(sizes=sizes, numbers=numbers):
+                self.assertEqual(wf.sweep(10, 1, sizes, numbers, 0, 9), expected)
+
+    def test_most_counts(self):
+        most = [LIMIT] * 2048, [65_535] * 2048
+        for family, p in ((1, 0), (2, 1), (3, 2), (4, 2), (5, 1)):
+            self.assertEqual(wf.sweep(LIMIT, family, *most, p, p), (0, 134_215_680, p))
+
+    def test_as_copies_written_out(self):
+        rng = random.Random(9)
+        for _ in range(200):
+            capacity, family = rng.randint(1, 15), rng.randint(1, 5)
+            pairs = random_pairs(rng, capacity, rng.randint(0, 5), 6)
+            copies = written_out(pairs)
+            self.assertEqual(wf.sweep(capacity, family, *apart(pairs), 0, 15),
+                             wf.sweep(capacity, family, copies, [1] * len(copies), 0, 15))
 
 
 if __name__ == "__main__":

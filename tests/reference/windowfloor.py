@@ -1,14 +1,14 @@
 """Reference for the operations of the scope document ("01") with the change
-requests for many rows and for tables of another capacity ("02", tickets 1 and
-2), written for clarity. Comments name the section of 01, or the ticket of 02,
-that a function follows."""
+requests for many rows, for tables of another capacity and for counts of
+identical sizes ("02", tickets 1, 2 and 4), written for clarity. Comments name
+the section of 01, or the ticket of 02, that a function follows."""
 
 import sys
 from functools import lru_cache
 
 LIMIT = 1_000_000_000  # capacities, parameters, scales and table entries
 
-# Refusal numbers (01, Operations and what they refuse; 02, ticket 1).
+# Refusal numbers (01, Operations and what they refuse; 02, tickets 1 and 4).
 ACCEPTED = 0
 BAD_CAPACITY = 1
 BAD_FAMILY = 2
@@ -31,9 +31,10 @@ OTHER_CAPACITY = 18
 BAD_RANGE = 19
 NO_LEGAL_P = 20
 BAD_ROWS = 21
+COUNT_0 = 22
 
 FLOOR, CUT, ROWS = 1, 2, 3  # kinds
-KIND, CAPACITY, SIZES, FAMILY_STEP, TABLE_STEP, ROW = 1, 2, 3, 4, 5, 6  # tags
+KIND, CAPACITY, SIZES, FAMILY_STEP, TABLE_STEP, ROW, COUNTS = 1, 2, 3, 4, 5, 6, 7  # tags
 STEPS = FAMILY_STEP, TABLE_STEP
 MOST_ENTRIES, MOST_SIZES, MOST_STEPS, MOST_ROWS, MOST_JOB_BYTES = 2048, 2048, 8, 64, 65535
 JOB_IMAGES, JOB_WORKING, JOB_LIST, JOB_SCALES = 2048, 2048, 2047, 64  # least places
@@ -297,14 +298,24 @@ def number_of(part):
     return int.from_bytes(part, "big")
 
 
-def numbers_of(value):
-    """Jobs: the four-byte numbers of a value."""
-    return [number_of(value[i:i + 4]) for i in range(0, len(value), 4)]
+def numbers_of(value, width=4):
+    """Jobs: the numbers of a value, of so many bytes each."""
+    return [number_of(value[i:i + width]) for i in range(0, len(value), width)]
+
+
+def kind_of(fields):
+    """Jobs: the kind byte. The first field is always tag 1."""
+    return number_of(fields[0][1])
 
 
 def has_rows(fields):
     """02, ticket 1: the kind byte is 3, so rows stand in the place of tags 2 and 3."""
-    return len(fields) > 0 and number_of(fields[0][1]) == ROWS
+    return len(fields) > 0 and kind_of(fields) == ROWS
+
+
+def counts_may_follow(fields):
+    """02, ticket 4: tag 7 comes right after tag 3, and only where the kind byte is 1."""
+    return len(fields) > 0 and kind_of(fields) == FLOOR and fields[-1][0] == SIZES
 
 
 def may_end(fields):
@@ -313,16 +324,19 @@ def may_end(fields):
 
 
 def tag_in_place(fields, tag):
-    """Jobs; 02, ticket 1: tag may follow these fields; refusal 14 if not."""
+    """Jobs; 02, tickets 1 and 4: tag may follow these fields; refusal 14 if not."""
     if tag in STEPS:
         return may_end(fields) and len(steps_of(fields)) < MOST_STEPS
+    if tag == COUNTS:
+        return counts_may_follow(fields)
     if has_rows(fields):
         return tag == ROW and fields[-1][0] in (KIND, ROW)
     return len(fields) < 3 and tag == (KIND, CAPACITY, SIZES)[len(fields)]
 
 
-def length_right(tag, length):
-    """Jobs; 02, ticket 1: the lengths of the tags; refusal 15 if wrong."""
+def length_right(tag, length, fields=()):
+    """Jobs; 02, tickets 1 and 4: the lengths of the tags; refusal 15 if wrong. That of tag 7 depends on the fields
+    before it."""
     if tag == KIND:
         return length == 1
     if tag == CAPACITY:
@@ -333,6 +347,8 @@ def length_right(tag, length):
         return length == 9
     if tag == ROW:
         return length % 4 == 0 and length >= 4
+    if tag == COUNTS:
+        return length == 2 * len(sizes_of(fields))
     return 8 <= length <= 4 * MOST_ENTRIES and length % 4 == 0
 
 
@@ -348,13 +364,30 @@ def read_fields(data):
             return PAST_THE_END, []
         if not tag_in_place(fields, tag):
             return BAD_TAG, []
-        if not length_right(tag, length):
+        if not length_right(tag, length, fields):
             return BAD_LENGTH, []
         fields.append((tag, rest[3:3 + length]))
         rest = rest[3 + length:]
     if not may_end(fields):
         return BAD_TAG, []
     return ACCEPTED, fields
+
+
+def value_of(fields, tag):
+    """Jobs: the value of the field with this tag, empty if there is none."""
+    return dict(fields).get(tag, b"")
+
+
+def sizes_of(fields):
+    """Jobs, tag 3."""
+    return numbers_of(value_of(fields, SIZES))
+
+
+def counts_of(fields):
+    """02, ticket 4: a count for each size; without tag 7 each is 1."""
+    if COUNTS in dict(fields):
+        return numbers_of(value_of(fields, COUNTS), 2)
+    return [1] * len(sizes_of(fields))
 
 
 def steps_of(fields):
@@ -400,12 +433,14 @@ def take_step(field, capacity, images, working, lst):
 
 # 01, Operations: Job
 
-def list_refusal(kind, capacity, sizes):
-    """Operations, Job: refusals 1 and 17, or 0."""
+def list_refusal(kind, capacity, sizes, counts=()):
+    """Operations, Job; 02, ticket 4: refusals 1, 17 and 22, or 0."""
     if capacity_refused(capacity):
         return BAD_CAPACITY
     if any(size > capacity or (size == 0 and kind == FLOOR) for size in sizes):
         return BAD_SIZE
+    if 0 in counts:
+        return COUNT_0
     return ACCEPTED
 
 
@@ -436,18 +471,23 @@ def floor_of(total, scale):
     return up(total, scale)
 
 
-def accepted(kind, present, scale):
+def total_of(images, counts):
+    """02, ticket 4: the sum of count times image."""
+    return sum(count * image for count, image in zip(counts, images, strict=True))
+
+
+def accepted(kind, present, counts, scale):
     """Operations, Job: an accepted job's answer, of kind 1 or 2."""
     if kind == CUT:
         return ACCEPTED, len(present), 0, 0, scale, 0, 0, 0
-    total = sum(present)
+    total = total_of(present, counts)
     return ACCEPTED, len(present), floor_of(total, scale), total, scale, 0, 0, 0
 
 
-def judge(kind, capacity, sizes, steps, working, lst):
-    """Operations, Job: a list or a row in full: refusals 1 and 17, then the
-    steps in order -> (number, step, length, images, scale)."""
-    number = list_refusal(kind, capacity, sizes)
+def judge(kind, capacity, sizes, counts, steps, working, lst):
+    """Operations, Job; 02, ticket 4: a list or a row in full: refusals 1, 17
+    and 22, then the steps in order -> (number, step, length, images, scale)."""
+    number = list_refusal(kind, capacity, sizes, counts)
     if number != ACCEPTED:
         return number, 0, 0, [], 0
     present, scale = sizes, capacity
@@ -460,22 +500,23 @@ def judge(kind, capacity, sizes, steps, working, lst):
 
 def list_job(kind, fields, images, working, lst):
     """Operations, Job: kinds 1 and 2, with their fields in order."""
-    capacity, sizes = number_of(fields[1][1]), numbers_of(fields[2][1])
-    number, step, length, present, scale = judge(kind, capacity, sizes, fields[3:], working, lst)
+    capacity, sizes = number_of(value_of(fields, CAPACITY)), sizes_of(fields)
+    counts, steps = counts_of(fields), steps_of(fields)
+    number, step, length, present, scale = judge(kind, capacity, sizes, counts, steps, working, lst)
     if number != ACCEPTED:
         return refused(number, step, length)
     images[:len(present)] = present
-    return accepted(kind, present, scale)
+    return accepted(kind, present, counts, scale)
 
 
 def rows_job(fields, images, working, lst, scales):
-    """02, ticket 1: kind 3. Every row is judged in full before the next."""
+    """02, ticket 1: kind 3. Every row is judged in full before the next; it has no counts."""
     rows, steps = rows_of(fields), steps_of(fields)
     if rows_refused(rows):
         return refused(BAD_ROWS)
     all_images, all_scales = [], []
     for place, (right, *coefficients) in enumerate(rows, start=1):
-        number, step, length, present, scale = judge(ROWS, right, coefficients, steps, working, lst)
+        number, step, length, present, scale = judge(ROWS, right, coefficients, (), steps, working, lst)
         if number != ACCEPTED:
             return refused(number, step, length, place)
         all_images += present
@@ -493,7 +534,7 @@ def job(data, images, working, lst, scales):
     number, fields = read_fields(data)
     if number != ACCEPTED:
         return refused(number)
-    kind = number_of(fields[0][1])
+    kind = kind_of(fields)
     if kind == ROWS:
         return rows_job(fields, images, working, lst, scales)
     if kind not in (FLOOR, CUT):
@@ -503,33 +544,35 @@ def job(data, images, working, lst, scales):
 
 # 01, Operations: Sweep
 
-def sweep_refusal(capacity, family, sizes, low, high):
-    """Operations, Sweep: refusals 1, 2, 6, 17 and 19, or 0."""
+def sweep_refusal(capacity, family, sizes, counts, low, high):
+    """Operations, Sweep; 02, ticket 4: refusals 1, 2, 6, 17, 22 and 19, or 0."""
     if capacity_refused(capacity):
         return BAD_CAPACITY
     if not 1 <= family <= 5:
         return BAD_FAMILY
-    if len(sizes) > MOST_SIZES:
+    if len(sizes) > MOST_SIZES or len(counts) != len(sizes):
         return BAD_COUNT
     if any(size == 0 or size > capacity for size in sizes):
         return BAD_SIZE
+    if 0 in counts:
+        return COUNT_0
     if low > high or high - low > 4095:
         return BAD_RANGE
     return ACCEPTED
 
 
-def one_step_floor(capacity, family, p, sizes):
-    """Operations, Sweep: the floor of one family step."""
-    total = sum(family_image(capacity, family, p, 0, x) for x in sizes)
+def one_step_floor(capacity, family, p, sizes, counts):
+    """Operations, Sweep; 02, ticket 4: the floor of one family step."""
+    total = total_of([family_image(capacity, family, p, 0, x) for x in sizes], counts)
     return floor_of(total, family_scale(capacity, family, p, 0))
 
 
-def sweep(capacity, family, sizes, low, high):
+def sweep(capacity, family, sizes, counts, low, high):
     """Operations, Sweep -> (number, floor, p)."""
-    number = sweep_refusal(capacity, family, sizes, low, high)
+    number = sweep_refusal(capacity, family, sizes, counts, low, high)
     if number != ACCEPTED:
         return number, 0, 0
-    floors = [(one_step_floor(capacity, family, p, sizes), p)
+    floors = [(one_step_floor(capacity, family, p, sizes, counts), p)
               for p in range(low, high + 1)
               if family_refusal(capacity, family, p, 0) == ACCEPTED]
     if not floors:

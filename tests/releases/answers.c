@@ -198,12 +198,34 @@ static void job(void)
     print_buffer(&scales);
 }
 
+static size_t given_counts(uint16_t *out)
+{
+    static uint32_t wide[ROOM_PLACES];
+    size_t count = numbers("counts", wide);
+    for (size_t i = 0; i < count; i++) {
+        if (wide[i] > UINT16_MAX)
+            fail("over 16 bits", "counts");
+        out[i] = (uint16_t)wide[i];
+    }
+    return count;
+}
+
+static size_t ones(uint16_t *out, size_t count)
+{
+    for (size_t i = 0; i < count; i++)
+        out[i] = 1;
+    return count;
+}
+
+/* A case without counts is called with a one for each size. */
 static void sweep(void)
 {
     static uint32_t sizes[ROOM_PLACES];
-    size_t count = numbers("sizes", sizes);
+    static uint16_t counts[ROOM_PLACES];
+    size_t n = numbers("sizes", sizes);
+    size_t counted = find("counts", "") != NULL ? given_counts(counts) : ones(counts, n);
     struct windowfloor_sweep_answer answer =
-        windowfloor_sweep(number("capacity"), (uint8_t)number("family"), sizes, count,
+        windowfloor_sweep(number("capacity"), (uint8_t)number("family"), sizes, n, counts, counted,
                           number("low"), number("high"));
     PRINT(answer, number);
     PRINT(answer, floor);

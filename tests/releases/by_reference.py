@@ -47,7 +47,9 @@ def job(given):
 
 
 def sweep(given):
-    return named("number floor p", wf.sweep(**given))
+    """A case without counts is called with a one for each size."""
+    ones = dict(counts=[1] * len(given["sizes"]))
+    return named("number floor p", wf.sweep(**(ones | given)))
 
 
 def text(given):

@@ -19,7 +19,7 @@ from typing import NamedTuple
 
 FOLDER = Path(__file__).resolve().parent
 LIST = "releases.txt"  # a line for each file of cases: release, operation, number of cases
-LISTS = ("entries", "sizes")
+LISTS = ("entries", "sizes", "counts")
 BYTES = ("job",)
 BUFFERS = ("images", "working", "list", "scales")
 LEAST_RUN = 4  # shorter runs are written out

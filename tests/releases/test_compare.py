@@ -11,11 +11,12 @@ import unittest
 from pathlib import Path
 
 sys.dont_write_bytecode = True
+import by_reference
 from compare import compare
 from exceptions import EXCEPTIONS, Rule
-from inputs_base import IDENTITY, LIMIT, family, job, tabled
+from inputs_base import IDENTITY, LIMIT, family, field, halves, head, job, row, tabled
 from inputs_request_1 import KIND_3, model
-from stored import LIST, pack_bytes, pack_numbers, unpack_bytes, unpack_numbers
+from stored import LIST, pack_bytes, pack_numbers, unpack, unpack_bytes, unpack_numbers
 
 IMAGE = "capacity=10 family=1 p=3 q=0 x=8 -> number=0 image=10 scale=10"
 TABLE = "entries=0,1,1,2 working_places=6 -> number=11 length=3 working=0:0,1,2,3 list=0:1,1,1"
@@ -25,6 +26,8 @@ ROWS = ("job=01000103.06000c0000000a0000000700000003.06000400000009 -> "
         "number=0 n=2 floor=0 sum=0 scale=0 step=0 length=0 row=0 images=0:7,3 list=same scales=0:10,9")
 OTHER_TABLE = ("job=01000101.0200040000000a.030000.05001000000000000000000000000200000001 -> "
                "number=11 n=0 floor=0 sum=0 scale=0 step=1 length=2 images=same list=0:1,2")
+COUNTED = ("job=01000101.0200040000000a.03000400000006.070002012c -> "
+           "number=14 n=0 floor=0 sum=0 scale=0 step=0 length=0 row=0 images=same list=same scales=same")
 SWEEP = "capacity=10 family=1 sizes=6*3 low=0 high=5 -> number=0 floor=3 p=5"
 TEXT = "job= -> status=0 errors=0 text='refused 14 0\\n'"
 CASES = dict(image=IMAGE, table=TABLE, job=JOB, sweep=SWEEP, text=TEXT)
@@ -95,6 +98,25 @@ class Comparison(unittest.TestCase):
             self.assert_passes("1 cases compared", dict(job=f"{given} scales_places={places} -> {due}"))
         self.assert_fails("number", dict(job=f"{given} scales_places=63 -> {answer}"))
 
+    def assert_sweeps(self, answer, *lists):
+        """The library, and the independent implementation for rules, give this answer for each list."""
+        for words in lists:
+            given = f"capacity=10 family=1 low=0 high=5 {words}"
+            self.assert_passes("1 cases compared", dict(sweep=f"{given} -> {answer}"))
+            self.assertEqual(by_reference.answer("sweep", unpack(given, False)), unpack(answer, True))
+
+    def test_sweeps_without_counts(self):
+        """They are called with ones, as many as sizes."""
+        self.assert_sweeps("number=0 floor=3 p=5", "sizes=6*3", "sizes=6*3 counts=1*3")
+        self.assert_sweeps("number=0 floor=2048 p=5", "sizes=6*2048", "sizes=6*2048 counts=1*2048")
+        self.assert_sweeps("number=0 floor=0 p=0", "sizes=", "sizes= counts=")
+        self.assert_sweeps("number=6 floor=0 p=0", "sizes=6*2049", "sizes=6*2049 counts=1*2049")
+
+    def test_sweeps_with_counts(self):
+        self.assert_sweeps("number=0 floor=302 p=5", "sizes=6*3 counts=1,300,1", "sizes=6 counts=302")
+        self.assert_sweeps("number=22 floor=0 p=0", "sizes=6*3 counts=1,0,1", "counts=0 sizes=6")
+        self.assert_sweeps("number=6 floor=0 p=0", "sizes=6*3 counts=", "sizes=6*3 counts=1*2", "sizes= counts=1")
+
     def test_files(self):
         for operation, line in CASES.items():
             self.assert_fails("has 0 cases, and 1 are listed", {operation: None})
@@ -140,6 +162,15 @@ class Comparison(unittest.TestCase):
         self.assert_fails("line 1: number, length, list", dict(job=OTHER_TABLE), rules, release="request-2")
         self.assert_fails("line 1: number, length, list", dict(job=OTHER_TABLE))
 
+    def test_counts_that_were_out_of_place(self):
+        """What request 4 makes of an answer that it changes."""
+        rules = [rule for rule in EXCEPTIONS if rule.request == 4]
+        self.assert_passes("request 4: 1 cases", dict(job=COUNTED), rules)
+        self.assert_passes("request 4: 1 cases", dict(job=COUNTED), rules, release="request-3")
+        changed = "number, n, floor, sum, scale, images"
+        self.assert_fails(f"line 1: {changed}", dict(job=COUNTED), rules, release="request-4")
+        self.assert_fails(f"line 1: {changed}", dict(job=COUNTED))
+
 
 class Exceptions(unittest.TestCase):
     def excepted(self, request, operation, data, **places):
@@ -157,15 +188,19 @@ class Exceptions(unittest.TestCase):
             self.assertEqual(self.excepted(1, "job", bytes.fromhex(data)), of_jobs, data)
             self.assertEqual(self.excepted(1, "text", bytes.fromhex(data)), of_texts, data)
 
-    def assert_request_2(self, applies, *datas):
+    def assert_excepted(self, request, applies, *datas):
         for data, operation in itertools.product(datas, ("job", "text")):
-            self.assertEqual(self.excepted(2, operation, data), applies, data.hex())
+            self.assertEqual(self.excepted(request, operation, data), applies, data.hex())
+
+    def assert_not_with_short_buffers(self, request, data):
+        for name, places in (("images", 2047), ("working", 0), ("list", 2046), ("scales", 63)):
+            self.assertFalse(self.excepted(request, "job", data, **{name + "_places": places}))
 
     def test_request_2_applies(self):
         """A bad table that is reached where the present capacity is another one."""
         for bad in BAD_TABLES:
-            self.assert_request_2(
-                True, job(1, 10, (3,), bad), job(2, 1, (0,), bad), job(1, LIMIT, (), bad),
+            self.assert_excepted(
+                2, True, job(1, 10, (3,), bad), job(2, 1, (0,), bad), job(1, LIMIT, (), bad),
                 job(1, 10, (3,), IDENTITY, bad), job(1, 2, (1,), family(2, 2), bad),
                 job(2, 10, (0,), *[family(1, 3)] * 7, bad), job(1, 10, (3,), bad, family(8, 1)),
                 model([(10, 3), (2, 1)], bad), model([(10,), (0, 1)], bad),
@@ -175,18 +210,53 @@ class Exceptions(unittest.TestCase):
     def test_request_2_does_not_apply(self):
         """The table is of the present capacity, in order, or not reached."""
         good = tabled(0, 1, 2)
-        self.assert_request_2(False, b"", job(1, 10, (3,), good), job(1, 2, (2,), good), model([(2, 1), (3, 1)], good))
+        self.assert_excepted(
+            2, False, b"", job(1, 10, (3,), good), job(1, 2, (2,), good), model([(2, 1), (3, 1)], good))
         for bad in BAD_TABLES:
             data = job(1, 10, (3,), bad)
-            self.assert_request_2(
-                False, job(1, 2, (2,), bad), job(2, 10, (3,), family(4, 2), bad), job(1, 10, (3,), good, bad),
+            self.assert_excepted(
+                2, False, job(1, 2, (2,), bad), job(2, 10, (3,), family(4, 2), bad), job(1, 10, (3,), good, bad),
                 job(1, 10, (3,), tabled(*range(10), 9), bad), job(1, 10, (3,), family(8, 1), bad),
                 job(1, 2, (2,), bad, tabled(1, 1)), job(1, 10, (11,), bad), job(1, 10, (0,), bad), job(1, 0, (), bad),
                 job(4, 10, (3,), bad), data[:-1], data + b"\5", data + bytes(65_536), KIND_3 + bad,
                 model([(10,)] * 65, bad), model([(2, 1), (10, 3)], bad), model([(10, 11)], bad),
                 model([(0,), (10,)], bad))
-            for name, places in (("images", 2047), ("working", 0), ("list", 2046), ("scales", 63)):
-                self.assertFalse(self.excepted(2, "job", data, **{name + "_places": places}))
+            self.assert_not_with_short_buffers(2, data)
+
+    def test_request_2_behind_counts(self):
+        """Counts are asked before the steps."""
+        for bad in BAD_TABLES:
+            self.assert_excepted(
+                2, True, job(1, 10, (3, 4), halves(7, 300, 1), bad), job(1, 10, (), field(7, b""), bad))
+            self.assert_excepted(
+                2, False, job(1, 10, (3, 4), halves(7, 300, 0), bad), job(1, 10, (3, 4), halves(7, 300), bad),
+                job(2, 10, (3, 4), halves(7, 300, 1), bad), job(1, 2, (2,), halves(7, 300), bad))
+
+    def test_request_4_applies(self):
+        """Whatever the counts are, and whatever is wrong with the list or stands behind them."""
+        for counts in (halves(7, 300, 1), halves(7, 0, 1), halves(7, 1), field(7, b""), field(7, bytes(3))):
+            data = job(1, 10, (3, 4), counts)
+            self.assert_excepted(
+                4, True, data, data + family(1, 3), data + counts, data + b"\7", data + bytes(9),
+                (data + bytes(65_535))[:65_535], job(1, 0, (), counts), job(1, 10, (0, 11), counts))
+            self.assertTrue(self.excepted(4, "job", data, scales_places=70))
+
+    def test_request_4_does_not_apply(self):
+        """Another kind, a tag 7 elsewhere or cut short, or something that is told before it is read."""
+        counts, step, fields = halves(7, 300, 1), family(1, 3), head(1, 10, (3, 4))
+        data = job(1, 10, (3, 4), counts)
+        self.assert_excepted(4, False, b"", counts, data[:-1], data[:-4], data[:-6], (data + bytes(65_536))[:65_536])
+        self.assert_excepted(4, False, *(job(kind, 10, (3, 4), counts) for kind in (0, 2, 3, 4, 255)))
+        self.assert_excepted(
+            4, False, job(1, 10, (3, 4)), job(1, 10, (3, 4), step, counts), job(1, 10, (3, 4), halves(8, 300, 1)),
+            job(1, 10, (3, 4), row(10, 3)), model([(10, 3)], counts), KIND_3 + counts)
+        for place, part in enumerate(fields):  # before a field of the head, in its place, behind one of wrong length
+            before, behind = fields[:place], fields[place + 1:]
+            longer = field(part[0], part[3:] + b"\0")
+            self.assert_excepted(
+                4, False, b"".join(before + [counts, part] + behind), b"".join(before + [counts] + behind + [counts]),
+                b"".join(before + [longer] + behind + [counts]))
+        self.assert_not_with_short_buffers(4, data)
 
 
 class StoredForm(unittest.TestCase):

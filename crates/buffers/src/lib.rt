@@ -32,6 +32,18 @@ pub fn fill(places: &mut [u32], first: u32, step: u32) {
     }
 }
 
+// Place i becomes number i, mod 2^16, as far as there are numbers.
+pub fn fill_halves(places: &mut [u16], numbers: &[u32]) {
+    let mut i = 0;
+    while i < places.len() {
+        if numbers.len() <= i {
+            return;
+        }
+        places[i] = (numbers[i] % 65_536) as u16;
+        i += 1;
+    }
+}
+
 // Place i becomes 7,000,000,000 + i.
 pub fn fill_working(working: &mut [u64]) {
     let mut i = 0;

@@ -5,7 +5,7 @@ use mathlib.Core.List.{List, [], _∷_, map}
 use Prim.Native.Nat.{ℕ}
 use lib.Dec.{eqb}
 use lib.ListN.{length}
-use Rattle.functions.specs.Words.{total}
+use Rattle.functions.specs.Words.{weighted}
 use Rattle.functions.specs.Families.{_up_, familyImage, familyScale}
 use Rattle.functions.specs.Image.{familyRefusal}
 use Rattle.tables.specs.Table.{entry, tableCapacity, tableScale}
@@ -49,6 +49,6 @@ unfoldable pub TablesPass : List Step → Type 0
 TablesPass [] = Unit {0}
 TablesPass (s ∷ steps) = (contentsRefusal s ≡ 0) × TablesPass steps
 
--- the lower bound on bins, document 01's floor, of a list of sizes
-unfoldable pub chainFloor : ℕ → List Step → List ℕ → ℕ
-chainFloor c steps sizes = total (map (chainImage c steps) sizes) up chainScale c steps
+-- the lower bound on bins, document 01's floor, of a list of sizes with their counts
+unfoldable pub chainFloor : ℕ → List Step → List ℕ → List ℕ → ℕ
+chainFloor c steps counts sizes = weighted counts (map (chainImage c steps) sizes) up chainScale c steps

@@ -52,12 +52,12 @@ judgeChain c k (s ∷ steps) =
     (judgeChain (stepScale c s) (suc k) steps)
     (record { number = stepRefusal c s; row = 0; step = suc k; list = stepList (stepRefusal c s) s })
 
--- a list of sizes from `least` on at a capacity: 1, 17, and then the steps in order
-unfoldable pub judgeList : ℕ → ℕ → List ℕ → List Step → Refusal
-judgeList least c sizes steps =
-    cond (eqb (listRefusal least c sizes) 0)
+-- a list of sizes from `least` on with their counts at a capacity: 1, 17, 22, and then the steps in order
+unfoldable pub judgeList : ℕ → ℕ → List ℕ → List ℕ → List Step → Refusal
+judgeList least c sizes counts steps =
+    cond (eqb (listRefusal least c sizes counts) 0)
     (judgeChain c 0 steps)
-    (plain (listRefusal least c sizes))
+    (plain (listRefusal least c sizes counts))
 
 -- the entries of the table at a place of the chain, counted from 1
 unfoldable pub stepEntries : Step → List ℕ

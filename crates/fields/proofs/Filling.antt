@@ -2,7 +2,7 @@
 use mathlib.Core.Path.{_≡_, refl, ap, sym, _∙_}
 use mathlib.Core.Bool.{true, _&&_, and-eq-true-iff}
 use mathlib.Core.List.{List, [], _∷_, _++_, map, map-append}
-use mathlib.Core.Logic.{_⊎_, ⊎-elim}
+use mathlib.Core.Logic.{_⊎_, inl, inr, ⊎-elim}
 use Prim.Native.Nat.{ℕ, suc, _+_, _-_, _*_, _/_, _%_, _≤_, _<_}
 use native.Mathlib.Nat.{eq-or-lt-of-le}
 use native.Mathlib.Numerals.{add-one}
@@ -12,45 +12,49 @@ use lib.Dec.{leb, eqb}
 use lib.ListN.{length, getD, take, drop, set, length-set, length-map, length-drop, length-append}
 use lib.Seq.{take-suc-set, getD-set-same, getD-set-other, length-take-le}
 use Rattle.tables.specs.Check.{mostEntries}
-use Rattle.fields.specs.Bytes.{word, words}
+use Rattle.fields.specs.Bytes.{word, numbersFrom, halfwords, words}
 use Rattle.fields.specs.Parts.{Field, fieldOf, valueOf, Step, onFamily, onTable, stepOf, Row, rowOf, jobKind, jobCapacity, jobSizes, jobSteps, jobRows, coefficientCount}
 use Rattle.fields.specs.Grammar.{mostSizes, mostSteps, lengthRight}
-use Rattle.fields.specs.Record.{spanBytes, SpanWithin, stepIn, stepsIn, familyStep, StepWithin, noStep, StepsWithin, PartsOf, NextField}
+use Rattle.fields.specs.Record.{spanBytes, SpanWithin, countBytes, CountsWithin, noSpan, stepIn, stepsIn, familyStep, StepWithin, noStep, StepsWithin, PartsOf, NextField}
 use Rattle.fields.specs.declared.Span.{Span}
 use Rattle.fields.specs.declared.JobStep.{JobStep}
 use Rattle.fields.specs.declared.JobSteps.{JobSteps}
 use Rattle.fields.specs.declared.JobParts.{JobParts}
 use Rattle.fields.proofs.Decoding.{words-length}
-use Rattle.fields.proofs.Following.{value-other, step-more, steps-kept, no-step, row-more, rows-kept, row-tag-is, no-row}
+use Rattle.fields.proofs.Following.{value-other, step-is, step-more, steps-kept, no-step, row-more, rows-kept, row-tag-is, no-row}
 
 -- the lengths that a tag may have, as facts
-pub kind-length : (n : ℕ) → lengthRight 1 n ≡ true → n ≡ 1
+pub kind-length : (sizes n : ℕ) → lengthRight sizes 1 n ≡ true → n ≡ 1
 unfolding lengthRight
-kind-length n e = eqb-true n 1 e
+kind-length sizes n e = eqb-true n 1 e
 
-pub capacity-length : (n : ℕ) → lengthRight 2 n ≡ true → n ≡ 4
+pub capacity-length : (sizes n : ℕ) → lengthRight sizes 2 n ≡ true → n ≡ 4
 unfolding lengthRight
-capacity-length n e = eqb-true n 4 e
+capacity-length sizes n e = eqb-true n 4 e
 
-pub sizes-length : (n : ℕ) → lengthRight 3 n ≡ true → (n % 4 ≡ 0) × (n ≤ 4 * mostSizes)
+pub sizes-length : (sizes n : ℕ) → lengthRight sizes 3 n ≡ true → (n % 4 ≡ 0) × (n ≤ 4 * mostSizes)
 unfolding lengthRight
-sizes-length n e =
+sizes-length sizes n e =
     let parts = and-eq-true-iff (eqb (n % 4) 0) (leb n (4 * mostSizes)) .0 e in
     (eqb-true (n % 4) 0 (parts .0), leb-true n (4 * mostSizes) (parts .1))
 
-pub family-length : (n : ℕ) → lengthRight 4 n ≡ true → n ≡ 9
+pub family-length : (sizes n : ℕ) → lengthRight sizes 4 n ≡ true → n ≡ 9
 unfolding lengthRight
-family-length n e = eqb-true n 9 e
+family-length sizes n e = eqb-true n 9 e
 
-pub row-length : (n : ℕ) → lengthRight 6 n ≡ true → (n % 4 ≡ 0) × (4 ≤ n)
+pub row-length : (sizes n : ℕ) → lengthRight sizes 6 n ≡ true → (n % 4 ≡ 0) × (4 ≤ n)
 unfolding lengthRight
-row-length n e =
+row-length sizes n e =
     let parts = and-eq-true-iff (eqb (n % 4) 0) (leb 4 n) .0 e in
     (eqb-true (n % 4) 0 (parts .0), leb-true 4 n (parts .1))
 
-pub table-length : (n : ℕ) → lengthRight 5 n ≡ true → (n % 4 ≡ 0) × (8 ≤ n) × (n ≤ 4 * mostEntries)
+pub counts-length : (sizes n : ℕ) → lengthRight sizes 7 n ≡ true → n ≡ 2 * sizes
 unfolding lengthRight
-table-length n e =
+counts-length sizes n e = eqb-true n (2 * sizes) e
+
+pub table-length : (sizes n : ℕ) → lengthRight sizes 5 n ≡ true → (n % 4 ≡ 0) × (8 ≤ n) × (n ≤ 4 * mostEntries)
+unfolding lengthRight
+table-length sizes n e =
     let parts = and-eq-true-iff (eqb (n % 4) 0) (leb 8 n && leb n (4 * mostEntries)) .0 e in
     let range = and-eq-true-iff (leb 8 n) (leb n (4 * mostEntries)) .0 (parts .1) in
     (eqb-true (n % 4) 0 (parts .0), leb-true 8 n (range .0), leb-true n (4 * mostEntries) (range .1))
@@ -59,10 +63,18 @@ pub span-length : (job : List ℕ) (s : Span) → SpanWithin job s → length (s
 unfolding spanBytes
 span-length job s within = length-take-le (4 * s .n) (drop (s .at) job) (omega (arith, length-drop (s .at) job))
 
+pub counts-length-is : (job : List ℕ) (s : Span) → CountsWithin job s → length (countBytes job s) ≡ 2 * s .n
+unfolding countBytes
+counts-length-is job s within = length-take-le (2 * s .n) (drop (s .at) job) (omega (arith, length-drop (s .at) job))
+
+pub no-counts : (job : List ℕ) → halfwords (countBytes job noSpan) ≡ []
+unfolding countBytes halfwords numbersFrom
+no-counts job = refl
+
 -- the coefficients of a row behind its right side
-pub row-count : (value : List ℕ) → lengthRight 6 (length value) ≡ true → length (words (drop 4 value)) ≡ length value / 4 - 1
-row-count value right =
-    let whole = row-length (length value) right in
+pub row-count : (sizes : ℕ) (value : List ℕ) → lengthRight sizes 6 (length value) ≡ true → length (words (drop 4 value)) ≡ length value / 4 - 1
+row-count sizes value right =
+    let whole = row-length sizes (length value) right in
     words-length (length value / 4 - 1) (drop 4 value) (omega (arith, whole, length-drop 4 value))
 
 pub counts-more : (rows : List Row) (r : Row) → coefficientCount (rows ++ (r ∷ [])) ≡ coefficientCount rows + length (r .coefficients)
@@ -121,6 +133,14 @@ module _ (job : List ℕ) (fields : List Field) (parts : JobParts) (h : PartsOf 
   unfolding jobSizes
   sizes-kept other = h .sizes-are ∙ ap words (sym (value-other f 3 fields other))
 
+  counts-kept : (tag ≡ 7 → ⊥) → countBytes job (parts .counts) ≡ valueOf 7 (fields ++ (f ∷ []))
+  counts-kept other = h .counts-given ∙ sym (value-other f 7 fields other)
+
+  -- before the sizes there are no counts
+  uncounted : tag ≡ 3 → parts .counts .n ≡ 0
+  uncounted three =
+      omega (arith, counts-length-is job (parts .counts) (h .counts-within), ap length (h .counts-given ∙ n .uncounted three))
+
   no-step-more : (tag ≡ 4 → ⊥) → (tag ≡ 5 → ⊥) → stepsIn job (parts .steps) ≡ jobSteps (fields ++ (f ∷ []))
   no-step-more four five = h .steps-are ∙ sym (steps-kept f fields (no-step tag four five))
 
@@ -130,70 +150,110 @@ module _ (job : List ℕ) (fields : List Field) (parts : JobParts) (h : PartsOf 
   coefficients-kept : (tag ≡ 6 → ⊥) → parts .coefficients ≡ coefficientCount (jobRows (fields ++ (f ∷ [])))
   coefficients-kept other = h .coefficients-count ∙ ap coefficientCount (sym (rows-kept f fields (no-row tag other)))
 
-  pub with-kind : tag ≡ 1 → PartsOf job (fields ++ (f ∷ [])) (record { kind = getD value 0 0; capacity = parts .capacity; sizes = parts .sizes; steps = parts .steps; rows = parts .rows; coefficients = parts .coefficients })
+  pub with-kind : tag ≡ 1 → PartsOf job (fields ++ (f ∷ [])) (record { kind = getD value 0 0; capacity = parts .capacity; sizes = parts .sizes; counts = parts .counts; steps = parts .steps; rows = parts .rows; coefficients = parts .coefficients })
   unfolding jobKind
   with-kind e =
       record {
-        kind-is = ap (λ (v : List ℕ). getD v 0 0) (sym (n .new (omega arith)) ∙ ap (λ (t : ℕ). valueOf t (fields ++ (f ∷ []))) e);
+        kind-is = ap (λ (v : List ℕ). getD v 0 0) (sym (n .new (inl (omega arith))) ∙ ap (λ (t : ℕ). valueOf t (fields ++ (f ∷ []))) e);
         capacity-is = capacity-kept (λ o. omega arith);
         sizes-are = sizes-kept (λ o. omega arith);
         sizes-within = h .sizes-within;
         sizes-most = h .sizes-most;
+        counts-given = counts-kept (λ o. omega arith);
+        counts-within = h .counts-within;
+        none-or-each = h .none-or-each;
         steps-are = no-step-more (λ o. omega arith) (λ o. omega arith);
         steps-within = h .steps-within;
         rows-count = rows-count-kept (λ o. omega arith);
         coefficients-count = coefficients-kept (λ o. omega arith);
       }
 
-  pub with-capacity : tag ≡ 2 → (d : ℕ) → d ≡ word value 0 → PartsOf job (fields ++ (f ∷ [])) (record { kind = parts .kind; capacity = d; sizes = parts .sizes; steps = parts .steps; rows = parts .rows; coefficients = parts .coefficients })
+  pub with-capacity : tag ≡ 2 → (d : ℕ) → d ≡ word value 0 → PartsOf job (fields ++ (f ∷ [])) (record { kind = parts .kind; capacity = d; sizes = parts .sizes; counts = parts .counts; steps = parts .steps; rows = parts .rows; coefficients = parts .coefficients })
   unfolding jobCapacity
   with-capacity e d is =
       record {
         kind-is = kind-kept (λ o. omega arith);
-        capacity-is = is ∙ ap (λ (v : List ℕ). word v 0) (sym (n .new (omega arith)) ∙ ap (λ (t : ℕ). valueOf t (fields ++ (f ∷ []))) e);
+        capacity-is = is ∙ ap (λ (v : List ℕ). word v 0) (sym (n .new (inl (omega arith))) ∙ ap (λ (t : ℕ). valueOf t (fields ++ (f ∷ []))) e);
         sizes-are = sizes-kept (λ o. omega arith);
         sizes-within = h .sizes-within;
         sizes-most = h .sizes-most;
+        counts-given = counts-kept (λ o. omega arith);
+        counts-within = h .counts-within;
+        none-or-each = h .none-or-each;
         steps-are = no-step-more (λ o. omega arith) (λ o. omega arith);
         steps-within = h .steps-within;
         rows-count = rows-count-kept (λ o. omega arith);
         coefficients-count = coefficients-kept (λ o. omega arith);
       }
 
-  pub with-sizes : tag ≡ 3 → PartsOf job (fields ++ (f ∷ [])) (record { kind = parts .kind; capacity = parts .capacity; sizes = value-span; steps = parts .steps; rows = parts .rows; coefficients = parts .coefficients })
+  pub with-sizes : tag ≡ 3 → PartsOf job (fields ++ (f ∷ [])) (record { kind = parts .kind; capacity = parts .capacity; sizes = value-span; counts = parts .counts; steps = parts .steps; rows = parts .rows; coefficients = parts .coefficients })
   unfolding jobSizes
   with-sizes e =
-      let right = sizes-length (length value) (rw e at (n .length-right)) in
+      let right = sizes-length _ (length value) (rw e at (n .length-right)) in
       record {
         kind-is = kind-kept (λ o. omega arith);
         capacity-is = capacity-kept (λ o. omega arith);
-        sizes-are = ap words (span-is (right .0) ∙ sym (n .new (omega arith)) ∙ ap (λ (t : ℕ). valueOf t (fields ++ (f ∷ []))) e);
+        sizes-are = ap words (span-is (right .0) ∙ sym (n .new (inl (omega arith))) ∙ ap (λ (t : ℕ). valueOf t (fields ++ (f ∷ []))) e);
         sizes-within = span-within;
         sizes-most = omega (arith, right .1);
+        counts-given = counts-kept (λ o. omega arith);
+        counts-within = h .counts-within;
+        none-or-each = inl (uncounted e);
         steps-are = no-step-more (λ o. omega arith) (λ o. omega arith);
         steps-within = h .steps-within;
         rows-count = rows-count-kept (λ o. omega arith);
         coefficients-count = coefficients-kept (λ o. omega arith);
       }
 
-  pub with-row : tag ≡ 6 → PartsOf job (fields ++ (f ∷ [])) (record { kind = parts .kind; capacity = parts .capacity; sizes = parts .sizes; steps = parts .steps; rows = parts .rows + 1; coefficients = parts .coefficients + (length value / 4 - 1) })
+  -- the span of a value of counts
+  abbrev pub count-span : Span
+  count-span = record { at = at; n = length value / 2 }
+
+  pub with-counts : tag ≡ 7 → PartsOf job (fields ++ (f ∷ [])) (record { kind = parts .kind; capacity = parts .capacity; sizes = parts .sizes; counts = count-span; steps = parts .steps; rows = parts .rows; coefficients = parts .coefficients })
+  unfolding countBytes
+  with-counts e =
+      let right = counts-length _ (length value) (rw e at (n .length-right)) in
+      let each : length value / 2 ≡ parts .sizes .n = omega (arith, right, sizes-count job fields parts h) in
+      let same : 2 * (length value / 2) ≡ length value = omega (arith, right) in
+      record {
+        kind-is = kind-kept (λ o. omega arith);
+        capacity-is = capacity-kept (λ o. omega arith);
+        sizes-are = sizes-kept (λ o. omega arith);
+        sizes-within = h .sizes-within;
+        sizes-most = h .sizes-most;
+        counts-given = ap (λ (k : ℕ). take k (drop at job)) same ∙ sym (n .value-at) ∙ sym (n .new (inr e)) ∙ ap (λ (t : ℕ). valueOf t (fields ++ (f ∷ []))) e;
+        counts-within = omega (arith, n .value-within);
+        none-or-each = inr each;
+        steps-are = no-step-more (λ o. omega arith) (λ o. omega arith);
+        steps-within = h .steps-within;
+        rows-count = rows-count-kept (λ o. omega arith);
+        coefficients-count = coefficients-kept (λ o. omega arith);
+      }
+
+  pub with-row : tag ≡ 6 → PartsOf job (fields ++ (f ∷ [])) (record { kind = parts .kind; capacity = parts .capacity; sizes = parts .sizes; counts = parts .counts; steps = parts .steps; rows = parts .rows + 1; coefficients = parts .coefficients + (length value / 4 - 1) })
   unfolding rowOf
   with-row e =
       let more = row-more f fields (row-tag-is tag e) in
-      let count = row-count value (rw e at (n .length-right)) in
+      let count = row-count _ value (rw e at (n .length-right)) in
       record {
         kind-is = kind-kept (λ o. omega arith);
         capacity-is = capacity-kept (λ o. omega arith);
         sizes-are = sizes-kept (λ o. omega arith);
         sizes-within = h .sizes-within;
         sizes-most = h .sizes-most;
+        counts-given = counts-kept (λ o. omega arith);
+        counts-within = h .counts-within;
+        none-or-each = h .none-or-each;
         steps-are = no-step-more (λ o. omega arith) (λ o. omega arith);
         steps-within = h .steps-within;
         rows-count = rw more (omega (arith, h .rows-count, length-append (jobRows fields) (rowOf f ∷ [])));
         coefficients-count = rw more (omega (arith, h .coefficients-count, counts-more (jobRows fields) (rowOf f), count));
       }
 
-  module _ (step : 4 ≤ tag) (other : tag ≡ 6 → ⊥) (s : JobStep) (same : stepIn job s ≡ stepOf f) (within : StepWithin job s) (room : parts .steps .count < mostSteps) where
+  module _ (step : (tag ≡ 4) ⊎ (tag ≡ 5)) (s : JobStep) (same : stepIn job s ≡ stepOf f) (within : StepWithin job s) (room : parts .steps .count < mostSteps) where
+    range : (4 ≤ tag) × (tag ≤ 5)
+    range = ⊎-elim (λ four. omega arith) (λ five. omega arith) step
+
     inside : parts .steps .count < length (parts .steps .items)
     inside = omega (arith, h .steps-within .places)
 
@@ -216,23 +276,26 @@ module _ (job : List ℕ) (fields : List Field) (parts : JobParts) (h : PartsOf 
     earlier : (i : ℕ) → i < parts .steps .count → StepWithin job (getD (steps′ .items) i noStep)
     earlier i l = rw (getD-set-other (parts .steps .items) (parts .steps .count) i s noStep (omega arith)) (h .steps-within .each i l)
 
-    pub with-step : PartsOf job (fields ++ (f ∷ [])) (record { kind = parts .kind; capacity = parts .capacity; sizes = parts .sizes; steps = steps′; rows = parts .rows; coefficients = parts .coefficients })
+    pub with-step : PartsOf job (fields ++ (f ∷ [])) (record { kind = parts .kind; capacity = parts .capacity; sizes = parts .sizes; counts = parts .counts; steps = steps′; rows = parts .rows; coefficients = parts .coefficients })
     with-step =
         record {
-          kind-is = kind-kept (λ o. omega arith);
-          capacity-is = capacity-kept (λ o. omega arith);
-          sizes-are = sizes-kept (λ o. omega arith);
+          kind-is = kind-kept (λ o. omega (arith, range));
+          capacity-is = capacity-kept (λ o. omega (arith, range));
+          sizes-are = sizes-kept (λ o. omega (arith, range));
           sizes-within = h .sizes-within;
           sizes-most = h .sizes-most;
-          steps-are = one-more ∙ ap (λ (l : List Step). l ++ (stepOf f ∷ [])) (h .steps-are) ∙ sym (step-more f fields (n .step-tag step other));
+          counts-given = counts-kept (λ o. omega (arith, range));
+          counts-within = h .counts-within;
+          none-or-each = h .none-or-each;
+          steps-are = one-more ∙ ap (λ (l : List Step). l ++ (stepOf f ∷ [])) (h .steps-are) ∙ sym (step-more f fields (step-is tag step));
           steps-within =
               record {
                 places = length-set (parts .steps .items) (parts .steps .count) s ∙ h .steps-within .places;
                 most = omega arith;
                 each = λ i l. ⊎-elim (λ e. last i e) (λ k. earlier i (omega arith)) (eq-or-lt-of-le l);
               };
-          rows-count = rows-count-kept other;
-          coefficients-count = coefficients-kept other;
+          rows-count = rows-count-kept (λ o. omega (arith, range));
+          coefficients-count = coefficients-kept (λ o. omega (arith, range));
         }
 
   pub family-same : tag ≡ 4 → stepIn job (familyStep value) ≡ stepOf f
@@ -247,7 +310,7 @@ module _ (job : List ℕ) (fields : List Field) (parts : JobParts) (h : PartsOf 
 
   module _ (e : tag ≡ 5) where
     right : (length value % 4 ≡ 0) × (8 ≤ length value) × (length value ≤ 4 * mostEntries)
-    right = table-length (length value) (rw e at (n .length-right))
+    right = table-length _ (length value) (rw e at (n .length-right))
 
     pub table-same : stepIn job table-step ≡ stepOf f
     unfolding stepIn stepOf

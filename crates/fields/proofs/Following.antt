@@ -1,6 +1,6 @@
 -- Fields one behind the other: what the parts by tag gain from one more field, and which tags may follow.
 use mathlib.Core.Path.{_≡_, refl, ap, _∙_}
-use mathlib.Core.Bool.{Bool, true, false, cond, not, _||_, and-eq-true-iff}
+use mathlib.Core.Bool.{Bool, true, false, cond, not, _&&_, _||_, and-eq-true-iff}
 use mathlib.Core.List.{List, [], _∷_, _++_, map, map-append}
 use mathlib.Core.Logic.{_⊎_, inl, inr, ⊎-elim}
 use Prim.Native.Nat.{ℕ, suc, _+_, _≤_, _<_}
@@ -9,7 +9,7 @@ use borrow.Author.Tests.{eqb-true, ltb-true, eq-eqb, ne-eqb, not-false}
 use lib.Dec.{ltb, eqb}
 use Rattle.functions.proofs.Cases.{lt-or-ge, not-refused}
 use Rattle.fields.specs.Parts.{Field, valueOf, isStep, stepOf, chosen, jobSteps, rowOf, isRow, jobRows, lastTagFrom, lastTag}
-use Rattle.fields.specs.Grammar.{mostSteps, rowsKind, stepFollows, rowFollows, mayFollow, lengthRight}
+use Rattle.fields.specs.Grammar.{mostSteps, floorKind, rowsKind, stepFollows, rowFollows, countsFollow, mayFollow, lengthRight}
 use Rattle.fields.specs.Reading.{headerRefusal}
 use Rattle.fields.specs.declared.Header.{Header}
 
@@ -17,6 +17,11 @@ use Rattle.fields.specs.declared.Header.{Header}
 pub Absent : ℕ → List Field → Type 0
 Absent t [] = Unit {0}
 Absent t (f ∷ fields) = (f .tag ≡ t → ⊥) × Absent t fields
+
+pub value-absent : (t : ℕ) (fields : List Field) → Absent t fields → valueOf t fields ≡ []
+unfolding Absent valueOf
+value-absent t [] a = refl
+value-absent t (g ∷ fields) a = rw (ne-eqb (g .tag) t (a .0)) (value-absent t fields (a .1))
 
 module _ (f : Field) where
   pub absent-more : (t : ℕ) (fields : List Field) → Absent t fields → (f .tag ≡ t → ⊥) → Absent t (fields ++ (f ∷ []))
@@ -76,37 +81,37 @@ module _ (f : Field) where
   last-more fields = last-from 0 fields
 
 -- a field's refusals in order: 13 whatever the tag and the length are, 14 whatever the length is
-module _ (h : Header) (kind last steps : ℕ) where
-  pub thirteen : h .within ≡ false → headerRefusal h kind last steps ≡ 13
+module _ (h : Header) (kind last steps sizes : ℕ) where
+  pub thirteen : h .within ≡ false → headerRefusal h kind last steps sizes ≡ 13
   unfolding headerRefusal
   thirteen past-the-end = rw past-the-end
 
   module _ (within : h .within ≡ true) where
-    pub fourteen : mayFollow kind last steps (h .tag) ≡ false → headerRefusal h kind last steps ≡ 14
+    pub fourteen : mayFollow kind last steps (h .tag) ≡ false → headerRefusal h kind last steps sizes ≡ 14
     unfolding headerRefusal
     fourteen out-of-place = rw (within, out-of-place)
 
     module _ (in-place : mayFollow kind last steps (h .tag) ≡ true) where
-      pub fifteen : lengthRight (h .tag) (h .length) ≡ false → headerRefusal h kind last steps ≡ 15
+      pub fifteen : lengthRight sizes (h .tag) (h .length) ≡ false → headerRefusal h kind last steps sizes ≡ 15
       unfolding headerRefusal
       fifteen wrong = rw (within, in-place, wrong)
 
-      pub fine-field : lengthRight (h .tag) (h .length) ≡ true → headerRefusal h kind last steps ≡ 0
+      pub fine-field : lengthRight sizes (h .tag) (h .length) ≡ true → headerRefusal h kind last steps sizes ≡ 0
       unfolding headerRefusal
       fine-field right = rw (within, in-place, right)
 
 -- a field that is not refused
-pub record Passed (h : Header) (kind last steps : ℕ) : Type 0 where
+pub record Passed (h : Header) (kind last steps sizes : ℕ) : Type 0 where
   pub within : h .within ≡ true
   pub follows : mayFollow kind last steps (h .tag) ≡ true
-  pub right : lengthRight (h .tag) (h .length) ≡ true
+  pub right : lengthRight sizes (h .tag) (h .length) ≡ true
 
-pub passed : (h : Header) (kind last steps : ℕ) → headerRefusal h kind last steps ≡ 0 → Passed h kind last steps
+pub passed : (h : Header) (kind last steps sizes : ℕ) → headerRefusal h kind last steps sizes ≡ 0 → Passed h kind last steps sizes
 unfolding headerRefusal
-passed h kind last steps fine =
+passed h kind last steps sizes fine =
     let one = not-refused (not (h .within)) 13 _ (omega arith) fine in
     let two = not-refused (not (mayFollow kind last steps (h .tag))) 14 _ (omega arith) (one .1) in
-    let three = not-refused (not (lengthRight (h .tag) (h .length))) 15 0 (omega arith) (two .1) in
+    let three = not-refused (not (lengthRight sizes (h .tag) (h .length))) 15 0 (omega arith) (two .1) in
     record { within = not-false _ (one .0); follows = not-false _ (two .0); right = not-false _ (three .0) }
 
 -- a step's tag is 4 or 5
@@ -118,8 +123,10 @@ step-tags tag is = go (eqb tag 4) refl is
     go true four e = inl (eqb-true tag 4 four)
     go false four e = inr (eqb-true tag 5 e)
 
-pub table-tag : (tag : ℕ) → isStep tag ≡ true → (tag ≡ 4 → ⊥) → tag ≡ 5
-table-tag tag is other = ⊎-elim (λ e. absurd (other e)) (λ e. e) (step-tags tag is)
+pub step-is : (tag : ℕ) → (tag ≡ 4) ⊎ (tag ≡ 5) → isStep tag ≡ true
+unfolding isStep
+step-is tag (inl four) = rw four
+step-is tag (inr five) = rw five
 
 pub no-step : (tag : ℕ) → (tag ≡ 4 → ⊥) → (tag ≡ 5 → ⊥) → isStep tag ≡ false
 unfolding isStep
@@ -137,65 +144,80 @@ pub no-row : (tag : ℕ) → (tag ≡ 6 → ⊥) → isRow tag ≡ false
 unfolding isRow
 no-row tag e = ne-eqb tag 6 e
 
--- a tag that may follow: the next of 1, 2 and 3, a row, or a step behind fewer than eight
+-- a tag that may follow: the next of 1, 2 and 3, a row, counts behind sizes, or a step behind fewer than eight
 pub record Followed (last steps tag : ℕ) : Type 0 where
-  pub known : 1 ≤ tag
+  pub known : (1 ≤ tag) × (tag ≤ 7)
   pub low : tag < 4 → tag ≡ suc last
-  pub step : 4 ≤ tag → (tag ≡ 6 → ⊥) → (isStep tag ≡ true) × (steps < mostSteps)
+  pub counts : tag ≡ 7 → last ≡ 3
+  pub step : (tag ≡ 4) ⊎ (tag ≡ 5) → steps < mostSteps
 
 module _ (last steps tag : ℕ) where
   next-tag : tag ≡ suc last → last < 3 → Followed last steps tag
-  next-tag e l = record { known = omega arith; low = λ _. e; step = λ m _. absurd (omega arith) }
+  next-tag e l = record { known = omega arith; low = λ _. e; counts = λ m. absurd (omega arith); step = λ m. absurd (⊎-elim (λ four. omega arith) (λ five. omega arith) m) }
 
   step-tag : stepFollows steps tag ≡ true → Followed last steps tag
   unfolding stepFollows
   step-tag e =
       let parts = and-eq-true-iff (isStep tag) (ltb steps mostSteps) .0 e in
-      let least : 4 ≤ tag = ⊎-elim (λ four. omega arith) (λ five. omega arith) (step-tags tag (parts .0)) in
-      record { known = omega arith; low = λ l. absurd (omega arith); step = λ _ _. (parts .0, ltb-true steps mostSteps (parts .1)) }
+      let range : (4 ≤ tag) × (tag ≤ 5) = ⊎-elim (λ four. omega arith) (λ five. omega arith) (step-tags tag (parts .0)) in
+      record { known = omega arith; low = λ l. absurd (omega arith); counts = λ seven. absurd (omega arith); step = λ _. ltb-true steps mostSteps (parts .1) }
 
   row-tag : rowFollows last tag ≡ true → Followed last steps tag
   unfolding rowFollows
   row-tag e =
       let six = tag-is-six tag (and-eq-true-iff (not (isStep last)) (isRow tag) .0 e .1) in
-      record { known = omega arith; low = λ l. absurd (omega arith); step = λ _ other. absurd (other six) }
+      record { known = omega arith; low = λ l. absurd (omega arith); counts = λ seven. absurd (omega arith); step = λ m. absurd (⊎-elim (λ four. omega arith) (λ five. omega arith) m) }
 
-  row-or-step : (test : Bool) → rowFollows last tag ≡ test → (test || stepFollows steps tag) ≡ true → Followed last steps tag
-  row-or-step true row e = row-tag row
-  row-or-step false row e = step-tag e
+  counts-tag : (kind : ℕ) → countsFollow kind last tag ≡ true → Followed last steps tag
+  unfolding countsFollow
+  counts-tag kind e =
+      let parts = and-eq-true-iff (eqb last 3) (eqb tag 7) .0 (and-eq-true-iff (eqb kind floorKind) (eqb last 3 && eqb tag 7) .0 e .1) in
+      let three = eqb-true last 3 (parts .0) in
+      let seven = eqb-true tag 7 (parts .1) in
+      record { known = omega arith; low = λ l. absurd (omega arith); counts = λ _. three; step = λ m. absurd (⊎-elim (λ four. omega arith) (λ five. omega arith) m) }
+
+  -- what may follow here and there, or a step
+  or-step : (here test : Bool) → here ≡ test → (here ≡ true → Followed last steps tag) → (test || stepFollows steps tag) ≡ true → Followed last steps tag
+  or-step here true is follows e = follows is
+  or-step here false is follows e = step-tag e
 
   -- behind tag 1, by the kind
-  behind-first : (test : Bool) → (last < 1 → ⊥) → cond test (rowFollows last tag || stepFollows steps tag) (cond (eqb last 1) (eqb tag 2) (cond (eqb last 2) (eqb tag 3) (stepFollows steps tag))) ≡ true → Followed last steps tag
-  behind-first true some e = row-or-step (rowFollows last tag) refl e
-  behind-first false some e = go (lt-or-ge last 2) (lt-or-ge last 3)
+  behind-first : (kind : ℕ) (test : Bool) → (last < 1 → ⊥) → cond test (rowFollows last tag || stepFollows steps tag) (cond (eqb last 1) (eqb tag 2) (cond (eqb last 2) (eqb tag 3) (countsFollow kind last tag || stepFollows steps tag))) ≡ true → Followed last steps tag
+  behind-first kind true some e = or-step (rowFollows last tag) (rowFollows last tag) refl row-tag e
+  behind-first kind false some e = go (lt-or-ge last 2) (lt-or-ge last 3)
     where
       go : (last < 2) ⊎ (2 ≤ last) → (last < 3) ⊎ (3 ≤ last) → Followed last steps tag
       go (inl l) d = next-tag (omega (arith, eqb-true tag 2 (rw (eq-eqb last 1 (omega arith)) at e))) (omega arith)
       go (inr a) (inl l) = next-tag (omega (arith, eqb-true tag 3 (rw (ne-eqb last 1 (omega arith), eq-eqb last 2 (omega arith)) at e))) (omega arith)
-      go (inr a) (inr l) = step-tag (rw (ne-eqb last 1 (omega arith), ne-eqb last 2 (omega arith)) at e)
+      go (inr a) (inr l) = or-step (countsFollow kind last tag) (countsFollow kind last tag) refl (counts-tag kind) (rw (ne-eqb last 1 (omega arith), ne-eqb last 2 (omega arith)) at e)
 
   pub follows : (kind : ℕ) → mayFollow kind last steps tag ≡ true → Followed last steps tag
   unfolding mayFollow
   follows kind e =
       ⊎-elim
       (λ l. next-tag (omega (arith, eqb-true tag 1 (rw (eq-eqb last 0 (omega arith)) at e))) (omega arith))
-      (λ m. behind-first (eqb kind rowsKind) (λ l. omega arith) (rw (ne-eqb last 0 (omega arith)) at e))
+      (λ m. behind-first kind (eqb kind rowsKind) (λ l. omega arith) (rw (ne-eqb last 0 (omega arith)) at e))
       (lt-or-ge last 1)
 
--- tags 1, 2 and 3 that are behind the last one have not come yet
+-- tags 1, 2 and 3 that are behind the last one have not come yet, and no counts before a tag over 3
 pub record Ordered (fields : List Field) : Type 0 where
   pub absent : (t : ℕ) → lastTag fields < t → t < 4 → Absent t fields
+  pub uncounted : lastTag fields < 4 → Absent 7 fields
 
 pub ordered-none : Ordered []
 unfolding Absent
-ordered-none = record { absent = λ t l m. tt }
+ordered-none = record { absent = λ t l m. tt; uncounted = λ l. tt }
 
 module _ (fields : List Field) (f : Field) (kind steps : ℕ) (o : Ordered fields) (may : mayFollow kind (lastTag fields) steps (f .tag) ≡ true) where
   followed : Followed (lastTag fields) steps (f .tag)
   followed = follows (lastTag fields) steps (f .tag) kind may
 
-  pub follows-new : f .tag < 4 → Absent (f .tag) fields
-  follows-new l = o .absent (f .tag) (omega (arith, followed .low l)) l
+  pub follows-new : (f .tag < 4) ⊎ (f .tag ≡ 7) → Absent (f .tag) fields
+  follows-new (inl l) = o .absent (f .tag) (omega (arith, followed .low l)) l
+  follows-new (inr seven) = rw seven (o .uncounted (omega (arith, followed .counts seven)))
+
+  pub sizes-uncounted : f .tag ≡ 3 → valueOf 7 fields ≡ []
+  sizes-uncounted three = value-absent 7 fields (o .uncounted (omega (arith, followed .low (omega arith))))
 
   pub ordered-more : Ordered (fields ++ (f ∷ []))
   ordered-more =
@@ -203,4 +225,7 @@ module _ (fields : List Field) (f : Field) (kind steps : ℕ) (o : Ordered field
         absent = λ t l m.
             let behind : f .tag < t = omega (arith, last-more f fields) in
             absent-more f t fields (o .absent t (omega (arith, followed .low (omega arith))) m) (λ same. omega arith);
+        uncounted = λ l.
+            let low : f .tag < 4 = omega (arith, last-more f fields) in
+            absent-more f 7 fields (o .uncounted (omega (arith, followed .low low))) (λ same. omega arith);
       }

@@ -10,7 +10,7 @@ use borrow.Author.Tests.{eqb-true, eq-eqb, ne-eqb}
 use lib.ListN.{length, getD, take, drop}
 use lib.Seq.{getD-take, getD-drop}
 use Rattle.fields.specs.Bytes.{headerBytes, fieldTag, fieldLength, fieldWithin, headerOf, fieldValue, fieldRest}
-use Rattle.fields.specs.Parts.{Field, valueOf, jobKind, jobSteps, lastTag, lastTagFrom}
+use Rattle.fields.specs.Parts.{Field, valueOf, jobKind, jobSizes, jobSteps, lastTag, lastTagFrom}
 use Rattle.fields.specs.Grammar.{mayFollow, mayEnd, lengthRight}
 use Rattle.fields.specs.Reading.{headerRefusal, fieldRefusal, firstField, Fields, refused, complete, readFields, jobFields, fieldsOf}
 use Rattle.fields.specs.declared.Header.{Header}
@@ -70,7 +70,7 @@ module _ (P : ℕ → Type 0) (thirteen : P 13) (fourteen : P 14) (fifteen : P 1
   unfolding Said fieldRefusal headerRefusal
   field-said done rest =
       let h = headerOf rest in
-      three P (not (h .within)) (not (mayFollow (jobKind done) (lastTag done) (length (jobSteps done)) (h .tag))) (not (lengthRight (h .tag) (h .length))) 13 14 15 thirteen fourteen fifteen
+      three P (not (h .within)) (not (mayFollow (jobKind done) (lastTag done) (length (jobSteps done)) (h .tag))) (not (lengthRight (length (jobSizes done)) (h .tag) (h .length))) 13 14 15 thirteen fourteen fifteen
 
   said-on : (done : List Field) (f : Field) (r : Fields) → Said (done ++ (f ∷ [])) r → Said done r
   unfolding Said
@@ -121,9 +121,9 @@ module _ (job : List ℕ) (fields : List Field) (whole : jobFields job ≡ compl
           let never : _≡_ {A = ℕ} 0 1 = cc in
           omega arith
 
-  first : Passed (headerOf job) (jobKind []) (lastTag []) (length (jobSteps []))
+  first : Passed (headerOf job) (jobKind []) (lastTag []) (length (jobSteps [])) (length (jobSizes []))
   unfolding fieldRefusal
-  first = passed (headerOf job) (jobKind []) (lastTag []) (length (jobSteps [])) first-fine
+  first = passed (headerOf job) (jobKind []) (lastTag []) (length (jobSteps [])) (length (jobSizes [])) first-fine
 
   within : fieldWithin job ≡ true
   within = sym (header-within job) ∙ first .within
@@ -134,8 +134,8 @@ module _ (job : List ℕ) (fields : List Field) (whole : jobFields job ≡ compl
 
   length-is : fieldLength job ≡ 1
   length-is =
-      let right : lengthRight (fieldTag job) (fieldLength job) ≡ true = rw (header-is job within) at (first .right) in
-      kind-length (fieldLength job) (rw tag-is at right)
+      let right : lengthRight (length (jobSizes [])) (fieldTag job) (fieldLength job) ≡ true = rw (header-is job within) at (first .right) in
+      kind-length _ (fieldLength job) (rw tag-is at right)
 
   value-kept : valueOf 1 fields ≡ fieldValue job
   unfolding jobFields firstField

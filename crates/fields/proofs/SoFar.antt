@@ -17,8 +17,8 @@ use Rattle.fields.specs.Record.{PartsOf, NextField, Fillable, Filled, St
 use Rattle.fields.specs.declared.JobParts.{JobParts}
 use Rattle.fields.specs.declared.JobRead.{JobRead}
 use Rattle.fields.proofs.Headers.{header-within, within-facts, header-is, value-is, value-length, rest-is}
-use Rattle.fields.proofs.Following.{value-new, last-more, Passed, passed, follows, Followed, Ordered, ordered-none, ordered-more, follows-new}
-use Rattle.fields.proofs.Filling.{steps-count}
+use Rattle.fields.proofs.Following.{value-new, last-more, Passed, passed, follows, Followed, Ordered, ordered-none, ordered-more, follows-new, sizes-uncounted}
+use Rattle.fields.proofs.Filling.{steps-count, sizes-count}
 use Rattle.fields.proofs.Standing.{stand-more, rows-within}
 
 -- `done` are the fields read so far; they end at a place of the job, and `fuel` more can be read there
@@ -40,31 +40,31 @@ so-far-start job parts h =
 
 module _ (job : List ℕ) (parts : JobParts) (last at : ℕ) (s : SoFar job parts last at) where
   -- the number that the code finds is that of the definition
-  number-is : (n : ℕ) → n ≡ headerRefusal (headerOf (drop at job)) (parts .kind) last (parts .steps .count) → n ≡ fieldRefusal (s .done) (drop at job)
+  number-is : (n : ℕ) → n ≡ headerRefusal (headerOf (drop at job)) (parts .kind) last (parts .steps .count) (parts .sizes .n) → n ≡ fieldRefusal (s .done) (drop at job)
   unfolding fieldRefusal
   number-is n e =
       let count = sym (steps-count job (parts .steps) (s .parts-are .steps-within)) ∙ ap length (s .parts-are .steps-are) in
-      e ∙ rw (s .parts-are .kind-is, s .last-is, count)
+      e ∙ rw (s .parts-are .kind-is, s .last-is, count, sizes-count job (s .done) parts (s .parts-are))
 
   module _ (more : at < length job) where
     some-left : length (drop at job) ≡ 0 → ⊥
     some-left e = omega (arith, length-drop at job)
 
-    pub turn-refused : (n : ℕ) → n ≡ headerRefusal (headerOf (drop at job)) (parts .kind) last (parts .steps .count) → (n ≡ 0 → ⊥) → jobFields job ≡ refused n
+    pub turn-refused : (n : ℕ) → n ≡ headerRefusal (headerOf (drop at job)) (parts .kind) last (parts .steps .count) (parts .sizes .n) → (n ≡ 0 → ⊥) → jobFields job ≡ refused n
     unfolding readFields
     turn-refused n e some =
         let same = number-is n e in
         s .reading ∙ rw (ne-eqb (length (drop at job)) 0 some-left, ← same, ne-eqb n 0 some)
 
-    module _ (fine : headerRefusal (headerOf (drop at job)) (parts .kind) last (parts .steps .count) ≡ 0) where
+    module _ (fine : headerRefusal (headerOf (drop at job)) (parts .kind) last (parts .steps .count) (parts .sizes .n) ≡ 0) where
       abbrev rest : List ℕ
       rest = drop at job
 
       abbrev tag : ℕ
       tag = headerOf rest .tag
 
-      pass : Passed (headerOf rest) (parts .kind) last (parts .steps .count)
-      pass = passed (headerOf rest) (parts .kind) last (parts .steps .count) fine
+      pass : Passed (headerOf rest) (parts .kind) last (parts .steps .count) (parts .sizes .n)
+      pass = passed (headerOf rest) (parts .kind) last (parts .steps .count) (parts .sizes .n) fine
 
       within : fieldWithin rest ≡ true
       within = sym (header-within rest) ∙ pass .within
@@ -85,7 +85,7 @@ module _ (job : List ℕ) (parts : JobParts) (last at : ℕ) (s : SoFar job part
       pub value-end : at + headerBytes + length (fieldValue rest) ≤ length job
       value-end = omega (arith, within-facts rest within, value-length rest within, length-drop at job)
 
-      right : lengthRight tag (length (fieldValue rest)) ≡ true
+      right : lengthRight (parts .sizes .n) tag (length (fieldValue rest)) ≡ true
       right = rw length-is (pass .right)
 
       follow-done : mayFollow (parts .kind) (lastTag (s .done)) (parts .steps .count) tag ≡ true
@@ -100,7 +100,7 @@ module _ (job : List ℕ) (parts : JobParts) (last at : ℕ) (s : SoFar job part
             known = followed .known;
             length-right = right;
             places = s .parts-are .steps-within .places;
-            room = λ l other. followed .step l other .1;
+            room = followed .step;
             countable = omega (arith, value-end, rows-within job 0 (s .done) at (s .stand), s .parts-are .rows-count, s .parts-are .coefficients-count);
           }
 
@@ -115,9 +115,10 @@ module _ (job : List ℕ) (parts : JobParts) (last at : ℕ) (s : SoFar job part
           record {
             value-at = value-at;
             value-within = value-end;
-            length-right = right;
-            step-tag = λ l other. followed .step l other .0;
+            length-right = rw (← (sizes-count job (s .done) parts (s .parts-are))) right;
+            known = followed .known .1;
             new = λ l. value-new next tag (s .done) (follows-new (s .done) next _ _ (s .ordered) follow-done l) refl;
+            uncounted = sizes-uncounted (s .done) next _ _ (s .ordered) follow-done;
           }
 
       same-rest : fieldRest rest ≡ drop (at + headerBytes + length (fieldValue rest)) job
@@ -143,7 +144,7 @@ module _ (job : List ℕ) (parts : JobParts) (last at : ℕ) (s : SoFar job part
                 parts-are = filled job (s .done) (s .parts-are) next-field;
                 last-is = sym (last-more next (s .done));
                 ordered = ordered-more (s .done) next _ _ (s .ordered) follow-done;
-                stand = stand-more job 0 (s .done) at next (s .stand) (record { within = within; is-first = sym first-is; length-right = right });
+                stand = stand-more job 0 (s .done) at next (s .stand) (record { sizes = parts .sizes .n; within = within; is-first = sym first-is; length-right = right });
               }
 
   module _ (over : length job ≤ at) where

@@ -50,9 +50,9 @@ no-rows-within : (at end : ℕ) → at ≡ end → at + length (jobRows []) + co
 unfolding jobRows chosen coefficientCount
 no-rows-within at end e = omega (arith, e)
 
-row-counted : (f : Field) (rows : List Row) → lengthRight 6 (length (f .value)) ≡ true → length (rowOf f ∷ rows) + coefficientCount (rowOf f ∷ rows) ≤ length (f .value) + length rows + coefficientCount rows
+row-counted : (sizes : ℕ) (f : Field) (rows : List Row) → lengthRight sizes 6 (length (f .value)) ≡ true → length (rowOf f ∷ rows) + coefficientCount (rowOf f ∷ rows) ≤ length (f .value) + length rows + coefficientCount rows
 unfolding coefficientCount rowOf
-row-counted f rows right = omega (arith, row-count (f .value) right, row-length (length (f .value)) right)
+row-counted sizes f rows right = omega (arith, row-count sizes (f .value) right, row-length sizes (length (f .value)) right)
 
 -- rows and coefficients take bytes
 pub rows-within : (job : List ℕ) (at : ℕ) (fields : List Field) (end : ℕ) → Stand job at fields end → at + length (jobRows fields) + coefficientCount (jobRows fields) ≤ end
@@ -62,4 +62,4 @@ rows-within job at (f ∷ fields) end here = go (isRow (f .tag)) refl (rows-with
   where
     go : (test : Bool) → isRow (f .tag) ≡ test → at + headerBytes + length (f .value) + length (jobRows fields) + coefficientCount (jobRows fields) ≤ end → at + length (jobRows (f ∷ fields)) + coefficientCount (jobRows (f ∷ fields)) ≤ end
     go false is next = rw (row-skipped f fields is) (omega (arith, next))
-    go true is next = rw (row-first f fields is) (omega (arith, next, row-counted f (jobRows fields) (rw (tag-is-six (f .tag) is) at (here .0 .length-right))))
+    go true is next = rw (row-first f fields is) (omega (arith, next, row-counted _ f (jobRows fields) (rw (tag-is-six (f .tag) is) at (here .0 .length-right))))

@@ -81,11 +81,11 @@ module _ (job : List ℕ) (at : ℕ) (h : RowHere job at) where
   abbrev value : List ℕ
   value = fieldValue (drop at job)
 
-  right : lengthRight 6 (length value) ≡ true
+  right : lengthRight (h .there .sizes) 6 (length value) ≡ true
   right = rw (← (tag-is-six _ (h .is-row)), ← (value-at job at (h .field) (h .there))) (h .there .length-right)
 
   pub row-value : 4 ≤ length value
-  row-value = row-length (length value) right .1
+  row-value = row-length _ (length value) right .1
 
   pub row-end : at + headerBytes + length value ≤ length job
   row-end = rw (value-at job at (h .field) (h .there)) at (field-end job at (h .field) (h .there))
@@ -96,7 +96,7 @@ module _ (job : List ℕ) (at : ℕ) (h : RowHere job at) where
   behind-right-side : spanBytes job coefficients ≡ drop 4 value
   unfolding spanBytes
   behind-right-side =
-      let whole = row-length (length value) right in
+      let whole = row-length _ (length value) right in
       let long : length value ≡ 4 + 4 * (length value / 4 - 1) = omega (arith, whole) in
       let from : List ℕ = drop (at + headerBytes) job in
       let is : value ≡ take (4 + 4 * (length value / 4 - 1)) from = value-is (drop at job) (h .there .within) ∙ ap (take (fieldLength (drop at job))) (drop-drop headerBytes at job) ∙ ap (λ (k : ℕ). take k from) (sym (value-length (drop at job) (h .there .within)) ∙ long) in
@@ -109,6 +109,6 @@ module _ (job : List ℕ) (at : ℕ) (h : RowHere job at) where
       record {
         row-is = rw (is .0, behind-right-side);
         next-is = ap (λ (n : ℕ). at + headerBytes + n) (value-length (drop at job) (h .there .within));
-        within = omega (arith, row-length (length value) right, row-end);
+        within = omega (arith, row-length _ (length value) right, row-end);
         small = is .1;
       }

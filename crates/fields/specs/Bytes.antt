@@ -1,4 +1,4 @@
--- The bytes of a job, document 01, "Jobs": four-byte numbers, high byte first, and the first field of a job's rest.
+-- The bytes of a job, document 01, "Jobs": numbers of two and of four bytes, high byte first, and the first field of a job's rest.
 use mathlib.Core.Bool.{Bool, true, false, cond, _&&_}
 use mathlib.Core.List.{List, [], _∷_}
 use Prim.Native.Nat.{ℕ, zero, suc, _+_, _*_, _/_}
@@ -10,24 +10,30 @@ use Rattle.fields.specs.declared.Header.{Header}
 abbrev pub headerBytes : ℕ
 headerBytes = 3
 
--- the four-byte number at a place of a list of bytes
-unfoldable pub word : List ℕ → ℕ → ℕ
-word bytes at = ((getD bytes at 0 * 256 + getD bytes (at + 1) 0) * 256 + getD bytes (at + 2) 0) * 256 + getD bytes (at + 3) 0
+-- the two-byte number at a place of a list of bytes, and the four-byte number
+unfoldable pub halfword : List ℕ → ℕ → ℕ
+halfword bytes at = getD bytes at 0 * 256 + getD bytes (at + 1) 0
 
--- the first n four-byte numbers
-unfoldable pub wordsFrom : ℕ → List ℕ → List ℕ
-wordsFrom zero bytes = []
-wordsFrom (suc n) bytes = word bytes 0 ∷ wordsFrom n (drop 4 bytes)
+unfoldable pub word : List ℕ → ℕ → ℕ
+word bytes at = halfword bytes at * 65_536 + halfword bytes (at + 2)
+
+-- the first n numbers, each read at the start of what is left, `width` bytes behind the one before
+unfoldable pub numbersFrom : (List ℕ → ℕ → ℕ) → ℕ → ℕ → List ℕ → List ℕ
+numbersFrom number width zero bytes = []
+numbersFrom number width (suc n) bytes = number bytes 0 ∷ numbersFrom number width n (drop width bytes)
+
+unfoldable pub halfwords : List ℕ → List ℕ
+halfwords bytes = numbersFrom halfword 2 (length bytes / 2) bytes
 
 unfoldable pub words : List ℕ → List ℕ
-words bytes = wordsFrom (length bytes / 4) bytes
+words bytes = numbersFrom word 4 (length bytes / 4) bytes
 
 -- the first field of the rest of a job: its tag, its length, and whether header and value are within the rest
 unfoldable pub fieldTag : List ℕ → ℕ
 fieldTag rest = getD rest 0 0
 
 unfoldable pub fieldLength : List ℕ → ℕ
-fieldLength rest = getD rest 1 0 * 256 + getD rest 2 0
+fieldLength rest = halfword rest 1
 
 unfoldable pub fieldWithin : List ℕ → Bool
 fieldWithin rest = leb headerBytes (length rest) && leb (headerBytes + fieldLength rest) (length rest)

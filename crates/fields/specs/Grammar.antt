@@ -1,4 +1,4 @@
--- The grammar of a job, document 01, "Jobs", and document 02, request 1: which tag may follow the last one, where a job may end, and which lengths a tag may have.
+-- The grammar of a job, document 01, "Jobs", and document 02, requests 1 and 4: which tag may follow the last one, where a job may end, and which lengths a tag may have.
 use mathlib.Core.Bool.{Bool, cond, not, _&&_, _||_}
 use Prim.Native.Nat.{ℕ, _*_, _%_}
 use lib.Dec.{leb, ltb, eqb}
@@ -18,16 +18,22 @@ mostRows = 64
 abbrev pub mostSteps : ℕ
 mostSteps = 8
 
--- the kind byte of a job with many rows
+-- the kind byte of a floor job, and of a job with many rows
+abbrev pub floorKind : ℕ
+floorKind = 1
+
 abbrev pub rowsKind : ℕ
 rowsKind = 3
 
--- a step behind fewer than eight, and a row behind no step
+-- a step behind fewer than eight, a row behind no step, and the counts of a floor job right behind its sizes
 unfoldable pub stepFollows : ℕ → ℕ → Bool
 stepFollows steps tag = isStep tag && ltb steps mostSteps
 
 unfoldable pub rowFollows : ℕ → ℕ → Bool
 rowFollows last tag = not (isStep last) && isRow tag
+
+unfoldable pub countsFollow : ℕ → ℕ → ℕ → Bool
+countsFollow kind last tag = eqb kind floorKind && (eqb last 3 && eqb tag 7)
 
 -- by the kind byte, the last tag (0 before the first field) and the number of steps so far
 unfoldable pub mayFollow : ℕ → ℕ → ℕ → ℕ → Bool
@@ -36,18 +42,19 @@ mayFollow kind last steps tag =
     (cond (eqb kind rowsKind) (rowFollows last tag || stepFollows steps tag)
     (cond (eqb last 1) (eqb tag 2)
     (cond (eqb last 2) (eqb tag 3)
-    (stepFollows steps tag))))
+    (countsFollow kind last tag || stepFollows steps tag))))
 
 -- not before tag 3, where the kind is not that of rows
 unfoldable pub mayEnd : ℕ → ℕ → Bool
 mayEnd kind last = eqb kind rowsKind || leb 3 last
 
--- kind, capacity, sizes, a family step, a row, a table
-unfoldable pub lengthRight : ℕ → ℕ → Bool
-lengthRight tag n =
+-- kind, capacity, sizes, a family step, a row, counts behind so many sizes, a table
+unfoldable pub lengthRight : ℕ → ℕ → ℕ → Bool
+lengthRight sizes tag n =
     cond (eqb tag 1) (eqb n 1)
     (cond (eqb tag 2) (eqb n 4)
     (cond (eqb tag 3) (eqb (n % 4) 0 && leb n (4 * mostSizes))
     (cond (eqb tag 4) (eqb n 9)
     (cond (eqb tag 6) (eqb (n % 4) 0 && leb 4 n)
-    (eqb (n % 4) 0 && (leb 8 n && leb n (4 * mostEntries)))))))
+    (cond (eqb tag 7) (eqb n (2 * sizes))
+    (eqb (n % 4) 0 && (leb 8 n && leb n (4 * mostEntries))))))))

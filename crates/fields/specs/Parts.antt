@@ -1,10 +1,10 @@
--- The parts of a job, document 01, "Jobs", and document 02, request 1, each found by its tag in the job's list of fields.
+-- The parts of a job, document 01, "Jobs", and document 02, requests 1 and 4, each found by its tag in the job's list of fields.
 use mathlib.Core.Bool.{Bool, cond, _||_}
 use mathlib.Core.List.{List, [], _∷_, map}
 use Prim.Native.Nat.{ℕ, _+_}
 use lib.Dec.{eqb}
-use lib.ListN.{length, getD, drop}
-use Rattle.fields.specs.Bytes.{word, words}
+use lib.ListN.{length, getD, drop, replicate}
+use Rattle.fields.specs.Bytes.{word, halfwords, words}
 
 pub record Field : Type 0 where
   pub tag : ℕ
@@ -26,6 +26,14 @@ jobCapacity fields = word (valueOf 2 fields) 0
 
 unfoldable pub jobSizes : List Field → List ℕ
 jobSizes fields = words (valueOf 3 fields)
+
+-- the counts of n sizes: those that are given, or, where none is, ones
+unfoldable pub countsFor : List ℕ → ℕ → List ℕ
+countsFor [] n = replicate n 1
+countsFor (k ∷ given) n = k ∷ given
+
+unfoldable pub jobCounts : List Field → List ℕ
+jobCounts fields = countsFor (halfwords (valueOf 7 fields)) (length (jobSizes fields))
 
 -- a step: family, p and q, or the entries of a table
 pub data Step : Type 0 where

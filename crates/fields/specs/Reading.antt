@@ -5,20 +5,20 @@ use Prim.Native.Nat.{ℕ, zero, suc}
 use lib.Dec.{eqb}
 use lib.ListN.{length}
 use Rattle.fields.specs.Bytes.{fieldTag, headerOf, fieldValue, fieldRest}
-use Rattle.fields.specs.Parts.{Field, fieldOf, jobKind, jobSteps, lastTag}
+use Rattle.fields.specs.Parts.{Field, fieldOf, jobKind, jobSizes, jobSteps, lastTag}
 use Rattle.fields.specs.Grammar.{mayFollow, mayEnd, lengthRight}
 use Rattle.fields.specs.declared.Header.{Header}
 
--- the number that refuses a field by its header, behind a last tag and a number of steps, or 0
-unfoldable pub headerRefusal : Header → ℕ → ℕ → ℕ → ℕ
-headerRefusal h kind last steps =
+-- the number that refuses a field by its header, behind a last tag, a number of steps and a number of sizes, or 0
+unfoldable pub headerRefusal : Header → ℕ → ℕ → ℕ → ℕ → ℕ
+headerRefusal h kind last steps sizes =
     cond (not (h .within)) 13
     (cond (not (mayFollow kind last steps (h .tag))) 14
-    (cond (not (lengthRight (h .tag) (h .length))) 15 0))
+    (cond (not (lengthRight sizes (h .tag) (h .length))) 15 0))
 
 -- the number that refuses the first field of a rest, behind the fields read so far, or 0
 unfoldable pub fieldRefusal : List Field → List ℕ → ℕ
-fieldRefusal done rest = headerRefusal (headerOf rest) (jobKind done) (lastTag done) (length (jobSteps done))
+fieldRefusal done rest = headerRefusal (headerOf rest) (jobKind done) (lastTag done) (length (jobSteps done)) (length (jobSizes done))
 
 unfoldable pub firstField : List ℕ → Field
 firstField rest = fieldOf (fieldTag rest) (fieldValue rest)

@@ -2,12 +2,13 @@
 use mathlib.Core.Path.{_≡_}
 use mathlib.Core.Bool.{true, cond}
 use mathlib.Core.List.{List, [], _∷_, _++_, map}
+use mathlib.Core.Logic.{_⊎_}
 use Prim.Native.Nat.{ℕ, suc, _+_, _*_, _^_, _≤_, _<_}
 use lib.Dec.{eqb}
 use lib.ListN.{length, getD, take, drop}
 use Rattle.tables.specs.Check.{mostEntries}
 use Rattle.fields.specs.Bytes.{headerBytes, word, words, fieldLength, fieldWithin}
-use Rattle.fields.specs.Parts.{Field, fieldOf, valueOf, isStep, Step, onFamily, onTable, Row, rowOf, isRow, jobKind, jobCapacity, jobSizes, jobSteps, jobRows, coefficientCount}
+use Rattle.fields.specs.Parts.{Field, fieldOf, valueOf, Step, onFamily, onTable, Row, rowOf, isRow, jobKind, jobCapacity, jobSizes, jobSteps, jobRows, coefficientCount}
 use Rattle.fields.specs.Grammar.{mostSizes, mostSteps, lengthRight}
 use Rattle.fields.specs.Reading.{firstField, refused, complete, jobFields, fieldsOf}
 use Rattle.fields.specs.declared.Span.{Span}
@@ -23,6 +24,13 @@ spanBytes job s = take (4 * s .n) (drop (s .at) job)
 
 abbrev pub SpanWithin : List ℕ → Span → Type 0
 SpanWithin job s = s .at + 4 * s .n ≤ length job
+
+-- counts have two bytes each
+unfoldable pub countBytes : List ℕ → Span → List ℕ
+countBytes job s = take (2 * s .n) (drop (s .at) job)
+
+abbrev pub CountsWithin : List ℕ → Span → Type 0
+CountsWithin job s = s .at + 2 * s .n ≤ length job
 
 abbrev pub noSpan : Span
 noSpan = record { at = 0; n = 0 }
@@ -58,6 +66,9 @@ pub record PartsOf (job : List ℕ) (fields : List Field) (parts : JobParts) : T
   pub sizes-are : words (spanBytes job (parts .sizes)) ≡ jobSizes fields
   pub sizes-within : SpanWithin job (parts .sizes)
   pub sizes-most : parts .sizes .n ≤ mostSizes
+  pub counts-given : countBytes job (parts .counts) ≡ valueOf 7 fields
+  pub counts-within : CountsWithin job (parts .counts)
+  pub none-or-each : (parts .counts .n ≡ 0) ⊎ (parts .counts .n ≡ parts .sizes .n)
   pub steps-are : stepsIn job (parts .steps) ≡ jobSteps fields
   pub steps-within : StepsWithin job (parts .steps)
   pub rows-count : parts .rows ≡ length (jobRows fields)
@@ -67,16 +78,17 @@ pub record PartsOf (job : List ℕ) (fields : List Field) (parts : JobParts) : T
 pub record NextField (job : List ℕ) (fields : List Field) (tag at : ℕ) (value : List ℕ) : Type 0 where
   pub value-at : value ≡ take (length value) (drop at job)
   pub value-within : at + length value ≤ length job
-  pub length-right : lengthRight tag (length value) ≡ true
-  pub step-tag : 4 ≤ tag → (tag ≡ 6 → ⊥) → isStep tag ≡ true
-  pub new : tag < 4 → valueOf tag (fields ++ (fieldOf tag value ∷ [])) ≡ value
+  pub length-right : lengthRight (length (jobSizes fields)) tag (length value) ≡ true
+  pub known : tag ≤ 7
+  pub new : (tag < 4) ⊎ (tag ≡ 7) → valueOf tag (fields ++ (fieldOf tag value ∷ [])) ≡ value
+  pub uncounted : tag ≡ 3 → valueOf 7 fields ≡ []
 
 -- what filling the record with a field asks: a tag with a right length, a place where it is a step, and counts that do not wrap
 pub record Fillable (parts : JobParts) (tag n : ℕ) : Type 0 where
-  pub known : 1 ≤ tag
-  pub length-right : lengthRight tag n ≡ true
+  pub known : (1 ≤ tag) × (tag ≤ 7)
+  pub length-right : lengthRight (parts .sizes .n) tag n ≡ true
   pub places : length (parts .steps .items) ≡ mostSteps
-  pub room : 4 ≤ tag → (tag ≡ 6 → ⊥) → parts .steps .count < mostSteps
+  pub room : (tag ≡ 4) ⊎ (tag ≡ 5) → parts .steps .count < mostSteps
   pub countable : parts .rows + parts .coefficients + n < 2 ^ 64
 
 -- the record with the field: it has the parts of these fields, and then of these and the field
@@ -84,11 +96,12 @@ abbrev pub Filled : JobParts → ℕ → ℕ → List ℕ → JobParts → Type 
 Filled parts tag at value next =
     (job : List ℕ) (fields : List Field) → PartsOf job fields parts → NextField job fields tag at value → PartsOf job (fields ++ (fieldOf tag value ∷ [])) next
 
--- a field at a place of the job
+-- a field at a place of the job, behind so many sizes
 pub record FieldAt (job : List ℕ) (at : ℕ) (f : Field) : Type 0 where
+  pub sizes : ℕ
   pub within : fieldWithin (drop at job) ≡ true
   pub is-first : f ≡ firstField (drop at job)
-  pub length-right : lengthRight (f .tag) (length (f .value)) ≡ true
+  pub length-right : lengthRight sizes (f .tag) (length (f .value)) ≡ true
 
 -- fields one behind the other, from a place of the job to another
 unfoldable pub Stand : List ℕ → ℕ → List Field → ℕ → Type 0

@@ -1,16 +1,25 @@
 // The grammar of a job: which tag may follow the last one, where a job may end, which lengths a tag
 // may have; and the refusals of a field by it.
+use crate::FLOOR_KIND;
 use crate::Header;
 use crate::MOST_SIZES;
 use crate::MOST_STEPS;
 use crate::ROWS_KIND;
 ghost use mathlib.Core.Path.{_≡_};
 ghost use mathlib.Core.Bool.{_&&_};
-ghost use Prim.Native.Nat.{_*_};
+ghost use Prim.Native.Nat.{_*_, _≤_};
 ghost use lib.Dec.{leb};
 ghost use Rattle.tables.specs.Check.{mostEntries};
 ghost use Rattle.fields.specs.Parts.{isStep};
-ghost use Rattle.fields.specs.Grammar.{stepFollows, rowFollows, mayFollow, mayEnd, lengthRight};
+ghost use Rattle.fields.specs.Grammar.{
+  mostSizes,
+  stepFollows,
+  rowFollows,
+  countsFollow,
+  mayFollow,
+  mayEnd,
+  lengthRight,
+};
 ghost use Rattle.fields.specs.Reading.{headerRefusal};
 
 // The bytes of the longest list of sizes and of the longest table.
@@ -41,6 +50,16 @@ fn row_follows(last: u8, tag: u8) -> bool
     !is_step(last) && tag == 6
 }
 
+// The counts of a floor job, right behind its sizes.
+fn counts_follow(kind: u8, last: u8, tag: u8) -> bool
+    ensures { λ r. ⌜ r ≡ countsFollow kind last tag ⌝ }
+{
+    if kind != FLOOR_KIND {
+        return false;
+    }
+    last == 3 && tag == 7
+}
+
 // Whether a tag may follow the last one, 0 before the first field.
 fn may_follow(kind: u8, last: u8, steps: usize, tag: u8) -> bool
     ensures { λ r. ⌜ r ≡ mayFollow kind last steps tag ⌝ }
@@ -54,7 +73,7 @@ fn may_follow(kind: u8, last: u8, steps: usize, tag: u8) -> bool
     match last {
         1 => tag == 2,
         2 => tag == 3,
-        _ => step_follows(steps, tag),
+        _ => counts_follow(kind, last, tag) || step_follows(steps, tag),
     }
 }
 
@@ -72,8 +91,10 @@ fn table_length_right(n: usize) -> bool
     8 <= n && n <= MOST_TABLE_BYTES
 }
 
-fn length_right(tag: u8, n: usize) -> bool
-    ensures { λ r. ⌜ r ≡ lengthRight tag n ⌝ }
+// Whether a tag may have this length, behind so many sizes.
+fn length_right(sizes: usize, tag: u8, n: usize) -> bool
+    requires { ⌜ sizes ≤ mostSizes ⌝ }
+    ensures { λ r. ⌜ r ≡ lengthRight sizes tag n ⌝ }
 {
     match tag {
         1 => n == 1,
@@ -81,13 +102,15 @@ fn length_right(tag: u8, n: usize) -> bool
         3 => n % 4 == 0 && n <= MOST_LIST_BYTES,
         4 => n == 9,
         6 => n % 4 == 0 && 4 <= n,
+        7 => n == 2 * sizes,
         _ => n % 4 == 0 && table_length_right(n),
     }
 }
 
-// Refusals 13, 14 and 15 of a field, behind a last tag and a number of steps.
-pub(crate) fn refuse_field(header: Header, kind: u8, last: u8, steps: usize) -> u64
-    ensures { λ r. ⌜ r ≡ headerRefusal header kind last steps ⌝ }
+// Refusals 13, 14 and 15 of a field, behind a last tag, a number of steps and a number of sizes.
+pub(crate) fn refuse_field(header: Header, kind: u8, last: u8, steps: usize, sizes: usize) -> u64
+    requires { ⌜ sizes ≤ mostSizes ⌝ }
+    ensures { λ r. ⌜ r ≡ headerRefusal header kind last steps sizes ⌝ }
 {
     if !header.within {
         return 13;
@@ -95,7 +118,7 @@ pub(crate) fn refuse_field(header: Header, kind: u8, last: u8, steps: usize) -> 
     if !may_follow(kind, last, steps, header.tag) {
         return 14;
     }
-    if !length_right(header.tag, header.length) {
+    if !length_right(sizes, header.tag, header.length) {
         return 15;
     }
     0

@@ -6,7 +6,9 @@ pub mod rows;
 pub mod words;
 
 ghost use mathlib.Core.Path.{_≡_};
-ghost use Rattle.fields.specs.Record.{spanBytes, SpanWithin, JobReading};
+ghost use Prim.Native.Nat.{_+_, _≤_};
+ghost use lib.ListN.{length, take, drop};
+ghost use Rattle.fields.specs.Record.{spanBytes, SpanWithin, countBytes, CountsWithin, JobReading};
 
 // The most bytes, sizes (in kind 3 coefficients of all rows), rows and steps of a job.
 pub const MOST_BYTES: usize = 65_535;
@@ -17,7 +19,9 @@ pub const MOST_ROWS: usize = 64;
 
 pub const MOST_STEPS: usize = 8;
 
-// The kind byte of a job with many rows.
+// The kind byte of a floor job, and of a job with many rows.
+pub const FLOOR_KIND: u8 = 1;
+
 pub const ROWS_KIND: u8 = 3;
 
 // The bytes of a header: a tag and a two-byte length.
@@ -30,7 +34,8 @@ pub struct Header {
     pub length: usize,
 }
 
-// A span of the job: where it starts, and how many four-byte numbers it has.
+// A span of the job: where it starts, and how many numbers it has. Counts have two bytes each, all
+// others four.
 pub struct Span {
     pub at: usize,
     pub n: usize,
@@ -51,10 +56,12 @@ pub struct JobSteps {
     pub count: usize,
 }
 
-// The parts of a job: of its rows how many there are, and how many coefficients they have in all.
+// The parts of a job: of its rows how many there are, and how many coefficients they have in all. Where
+// it has no tag 7, there are no counts.
 pub struct JobParts {
     pub capacity: u64,
     pub sizes: Span,
+    pub counts: Span,
     pub steps: JobSteps,
     pub rows: usize,
     pub coefficients: usize,
@@ -93,7 +100,8 @@ pub fn read_job(job: &[u8]) -> JobRead
     while at < job.len() {
         let rest = &job[at..];
         let header = reader::read_header(rest);
-        let number = grammar::refuse_field(header, parts.kind, last, parts.steps.count);
+        let steps = parts.steps.count;
+        let number = grammar::refuse_field(header, parts.kind, last, steps, parts.sizes.n);
         if number != 0 {
             return unread(number);
         }
@@ -109,12 +117,26 @@ pub fn read_job(job: &[u8]) -> JobRead
     JobRead { number: 0, parts }
 }
 
+fn part_at(job: &[u8], at: usize, n: usize) -> &[u8]
+    requires { ⌜ at + n ≤ length (now job) ⌝ }
+    ensures { λ r. ⌜ now r ≡ take n (drop at (now (job .entry))) ⌝ }
+{
+    let end = at + n;
+    &job[at..end]
+}
+
 // The bytes of a span of the job.
 pub fn span_bytes(job: &[u8], span: Span) -> &[u8]
     requires { ⌜ SpanWithin (now job) span ⌝ }
     ensures { λ r. ⌜ now r ≡ spanBytes (now (job .entry)) span ⌝ }
 {
-    let at = span.at;
-    let end = at + 4 * span.n;
-    &job[at..end]
+    part_at(job, span.at, 4 * span.n)
+}
+
+// The bytes of a span of counts.
+pub fn count_bytes(job: &[u8], span: Span) -> &[u8]
+    requires { ⌜ CountsWithin (now job) span ⌝ }
+    ensures { λ r. ⌜ now r ≡ countBytes (now (job .entry)) span ⌝ }
+{
+    part_at(job, span.at, 2 * span.n)
 }

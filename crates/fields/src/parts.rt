@@ -21,6 +21,7 @@ pub(crate) fn no_parts() -> JobParts
         kind: 0,
         capacity: 0,
         sizes: nowhere,
+        counts: nowhere,
         steps: JobSteps {
             items: [none; MOST_STEPS],
             count: 0,
@@ -77,6 +78,10 @@ pub(crate) fn with_field(parts: JobParts, tag: u8, at: usize, value: &[u8]) -> J
     let steps = parts.steps;
     let n = value.len() / 4;
     let span = Span { at, n };
+    let counts = Span {
+        at,
+        n: value.len() / 2,
+    };
     match tag {
         1 => {
             next.kind = value[0];
@@ -97,6 +102,10 @@ pub(crate) fn with_field(parts: JobParts, tag: u8, at: usize, value: &[u8]) -> J
         6 => {
             next.rows = parts.rows + 1;
             next.coefficients = parts.coefficients + (n - 1);
+            next
+        }
+        7 => {
+            next.counts = counts;
             next
         }
         _ => {

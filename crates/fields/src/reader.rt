@@ -13,7 +13,7 @@ fn length_at_header(rest: &[u8]) -> usize
     requires { ⌜ headerBytes ≤ length (now rest) ⌝ }
     ensures { λ r. ⌜ (r ≡ fieldLength (now (rest .entry))) × (r < 2 ^ 16) ⌝ }
 {
-    (words::byte_at(rest, 1) * 256 + words::byte_at(rest, 2)) as usize
+    words::halfword_at(rest, 1) as usize
 }
 
 fn no_header() -> Header

@@ -2,7 +2,7 @@
 ghost use mathlib.Core.Path.{_≡_};
 ghost use Prim.Native.Nat.{_+_, _*_, _^_, _≤_, _<_};
 ghost use lib.ListN.{length, getD};
-ghost use Rattle.fields.specs.Bytes.{word, words};
+ghost use Rattle.fields.specs.Bytes.{halfword, word, words};
 
 pub(crate) fn byte_at(bytes: &[u8], at: usize) -> u64
     requires { ⌜ at < length (now bytes) ⌝ }
@@ -11,14 +11,19 @@ pub(crate) fn byte_at(bytes: &[u8], at: usize) -> u64
     bytes[at] as u64
 }
 
-// The four-byte number at a place.
+// The two-byte number at a place, and the four-byte number.
+pub fn halfword_at(bytes: &[u8], at: usize) -> u64
+    requires { ⌜ at + 2 ≤ length (now bytes) ⌝ }
+    ensures { λ r. ⌜ (r ≡ halfword (now (bytes .entry)) at) × (r < 2 ^ 16) ⌝ }
+{
+    byte_at(bytes, at) * 256 + byte_at(bytes, at + 1)
+}
+
 pub fn word_at(bytes: &[u8], at: usize) -> u64
     requires { ⌜ at + 4 ≤ length (now bytes) ⌝ }
     ensures { λ r. ⌜ (r ≡ word (now (bytes .entry)) at) × (r < 2 ^ 32) ⌝ }
 {
-    let high = byte_at(bytes, at) * 256 + byte_at(bytes, at + 1);
-    let low = byte_at(bytes, at + 2) * 256 + byte_at(bytes, at + 3);
-    high * 65_536 + low
+    halfword_at(bytes, at) * 65_536 + halfword_at(bytes, at + 2)
 }
 
 // Writes the numbers of the bytes into a list of as many places.

@@ -39,10 +39,10 @@ pub neither : (a b : Bool) → a || b ≡ false → (a ≡ false) × (b ≡ fals
 neither true b e = absurd (true≢false e)
 neither false b e = (refl, e)
 
--- a number by a test is below what both are below
-pub cond-below : (test : Bool) (k a b : ℕ) → a < k → b < k → cond test a b < k
-cond-below true k a b l m = l
-cond-below false k a b l m = m
+-- what holds of two numbers holds of the one that a test takes
+pub of-both : (P : ℕ → Type 0) (test : Bool) (a b : ℕ) → P a → P b → P (cond test a b)
+of-both P true a b one other = one
+of-both P false a b one other = other
 
 -- a number that lets a second one decide where it is 0: it is not what came out, so the second is
 pub then-decided : (n m k : ℕ) → (0 < n → n ≡ k → ⊥) → cond (eqb n 0) m n ≡ k → (n ≡ 0) × (m ≡ k)

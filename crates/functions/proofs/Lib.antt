@@ -16,3 +16,4 @@ pub mod Pasted
 pub mod Mapped
 pub mod Summed
 pub mod Totals
+pub mod Carried

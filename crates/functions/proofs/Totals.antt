@@ -1,11 +1,10 @@
 -- Sums of lists, and dual-feasible functions, for the crates above: they need unfold neither `total` nor `DualFeasible`.
 use mathlib.Core.Path.{_≡_, refl, ap, _∙_}
 use mathlib.Core.List.{List, [], _∷_, map, map-id, map-map}
-use Prim.Native.Nat.{ℕ, zero, suc, _+_, _*_, _≤_, _<_}
+use Prim.Native.Nat.{ℕ, zero, suc, _+_, _*_, _≤_}
 use native.Mathlib.Omega.{arith}
-use lib.ListN.{length, getD, drop, replicate}
-use lib.Seq.{drop-cons}
-use Rattle.functions.specs.Words.{limit, total, DualFeasible}
+use lib.ListN.{replicate}
+use Rattle.functions.specs.Words.{limit, total, weighted, DualFeasible}
 use Rattle.functions.specs.Promise.{StepPromise}
 
 pub total-none : total [] ≡ 0
@@ -16,8 +15,18 @@ pub total-cons : (x : ℕ) (xs : List ℕ) → total (x ∷ xs) ≡ x + total xs
 unfolding total
 total-cons x xs = refl
 
-pub total-next : (xs : List ℕ) (i : ℕ) → i < length xs → total (drop i xs) ≡ getD xs i 0 + total (drop (suc i) xs)
-total-next xs i l = ap total (drop-cons xs i 0 l) ∙ total-cons _ _
+pub weighted-no-counts : (xs : List ℕ) → weighted [] xs ≡ 0
+unfolding weighted
+weighted-no-counts xs = refl
+
+pub weighted-none : (counts : List ℕ) → weighted counts [] ≡ 0
+unfolding weighted
+weighted-none [] = refl
+weighted-none (n ∷ counts) = refl
+
+pub weighted-cons : (n : ℕ) (counts : List ℕ) (x : ℕ) (xs : List ℕ) → weighted (n ∷ counts) (x ∷ xs) ≡ n * x + weighted counts xs
+unfolding weighted
+weighted-cons n counts x xs = refl
 
 pub total-plus : (f g : ℕ → ℕ) (xs : List ℕ) → total (map (λ x. f x + g x) xs) ≡ total (map f xs) + total (map g xs)
 unfolding total

@@ -1,7 +1,7 @@
 -- The words of document 01, "Words".
 use mathlib.Core.List.{List, [], _∷_, map}
 use mathlib.Core.Bool.{Bool, _&&_}
-use Prim.Native.Nat.{ℕ, _+_, _≤_, _<_}
+use Prim.Native.Nat.{ℕ, _+_, _*_, _≤_, _<_}
 use lib.Dec.{leb}
 use lib.ListN.{length, getD}
 
@@ -17,6 +17,15 @@ capacityFits c = leb 1 c && leb c limit
 unfoldable pub total : List ℕ → ℕ
 total [] = 0
 total (x ∷ xs) = x + total xs
+
+-- the greatest count, and the total of count × number
+abbrev pub mostCount : ℕ
+mostCount = 65_535
+
+unfoldable pub weighted : List ℕ → List ℕ → ℕ
+weighted [] xs = 0
+weighted (n ∷ counts) [] = 0
+weighted (n ∷ counts) (x ∷ xs) = n * x + weighted counts xs
 
 -- each number of a list is at most c
 abbrev pub EachWithin : ℕ → List ℕ → Type 0

@@ -1,16 +1,18 @@
 // The seven families of dual-feasible functions: the judgement of a family step, the image of a
 // size, and under an accepted step a list of sizes mapped, or its images summed.
+mod copies;
 mod formula;
 mod judge;
 mod steps;
 
 ghost use mathlib.Core.Path.{_≡_};
 ghost use mathlib.Core.List.{map};
-ghost use Prim.Native.Nat.{_+_, _-_, _*_, _^_, _<_};
+ghost use Prim.Native.Nat.{_+_, _-_, _*_, _^_, _≤_, _<_};
 ghost use lib.ListN.{length};
-ghost use Rattle.functions.specs.Words.{limit, capacityFits, total, EachWithin};
+ghost use Rattle.functions.specs.Words.{limit, capacityFits, mostCount, weighted, EachWithin};
 ghost use Rattle.functions.specs.Families.{_up_, familyImage, familyScale};
 ghost use Rattle.functions.specs.Image.{familyRefusal, familyAnswer, imageAnswer};
+ghost use Rattle.functions.specs.Summed.{Carriable};
 
 // The greatest capacity, parameter, scale and table entry.
 pub const LIMIT: u64 = 1_000_000_000;
@@ -147,17 +149,32 @@ pub fn map_family(capacity: u64, family: u8, p: u64, q: u64, list: &mut [u32])
     }
 }
 
-// Sums the images of a list under an accepted step with q 0. Only families 1 to 5 have such steps.
-pub fn sum_family(capacity: u64, family: u8, p: u64, list: &[u32]) -> u64
+// Sums count times image over a list under an accepted step with q 0. Only families 1 to 5 have such
+// steps.
+pub fn sum_family(capacity: u64, family: u8, p: u64, list: &[u32], counts: &[u16]) -> u64
     requires { ⌜ (familyRefusal capacity family p 0 ≡ 0) × EachWithin capacity (now list)
-        × (length (now list) * limit < 2 ^ 64) ⌝ }
-    ensures { λ r. ⌜ r ≡ total (map (familyImage capacity family p 0) (now (list .entry))) ⌝ }
+        × (length (now counts) ≡ length (now list)) × (length (now list) * (mostCount * limit) < 2 ^ 64) ⌝ }
+    ensures { λ r. ⌜ (r ≡ weighted (now (counts .entry)) (map (familyImage capacity family p 0) (now (list .entry))))
+        × (r ≤ length (now (list .entry)) * (mostCount * limit)) ⌝ }
 {
     match family {
-        1 => steps::sum_sizes(capacity, 1, p, list),
-        2 => steps::sum_sizes(capacity, 2, p, list),
-        3 => steps::sum_sizes(capacity, 3, p, list),
-        4 => steps::sum_sizes(capacity, 4, p, list),
-        _ => steps::sum_sizes(capacity, 5, p, list),
+        1 => steps::sum_sizes(capacity, 1, p, list, counts),
+        2 => steps::sum_sizes(capacity, 2, p, list, counts),
+        3 => steps::sum_sizes(capacity, 3, p, list, counts),
+        4 => steps::sum_sizes(capacity, 4, p, list, counts),
+        _ => steps::sum_sizes(capacity, 5, p, list, counts),
     }
+}
+
+// The sum of family 1 at p + 1, from that at p: from there on the sizes p are mapped to 0, and the sizes
+// capacity - p to the capacity.
+pub fn carry_threshold(capacity: u64, p: u64, sum: u64, list: &[u32], counts: &[u16]) -> u64
+    requires { ⌜ (familyRefusal capacity 1 (p + 1) 0 ≡ 0) × EachWithin capacity (now list)
+        × Carriable (now list) (now counts)
+        × (sum ≡ weighted (now counts) (map (familyImage capacity 1 p 0) (now list))) ⌝ }
+    ensures { λ r. ⌜ (r ≡ weighted (now (counts .entry)) (map (familyImage capacity 1 (p + 1) 0) (now (list .entry))))
+        × (r ≤ length (now (list .entry)) * (mostCount * limit)) ⌝ }
+{
+    let moved = copies::copies_of(list, counts, p as u32, (capacity - p) as u32);
+    sum + p * moved.second - p * moved.first
 }

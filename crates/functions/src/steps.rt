@@ -5,12 +5,13 @@ use crate::formula;
 use crate::judge;
 ghost use mathlib.Core.Path.{_≡_};
 ghost use mathlib.Core.List.{map};
-ghost use Prim.Native.Nat.{_*_, _^_, _≤_, _<_};
+ghost use Prim.Native.Nat.{_+_, _*_, _^_, _≤_, _<_};
 ghost use lib.ListN.{length};
-ghost use Rattle.functions.specs.Words.{limit, total, EachWithin};
+ghost use Rattle.functions.specs.Words.{limit, mostCount, weighted, EachWithin};
 ghost use Rattle.functions.specs.Families.{familyImage};
 ghost use Rattle.functions.specs.Image.{familyRefusal};
 ghost use Rattle.functions.specs.Prepared.{prepared, PreparedFor};
+ghost use Rattle.functions.specs.Summed.{Summed, Summable, imageUnder};
 
 // A step with what no size changes: the remainder is capacity % p, and the top that of judge::top.
 pub(crate) struct PreparedStep {
@@ -73,18 +74,40 @@ pub(crate) fn map_sizes(capacity: u64, family: u8, p: u64, q: u64, sizes: &mut [
     }
 }
 
-// Sums the images of the sizes. No image is over the limit, so no sum passes 64 bits.
-pub(crate) fn sum_sizes(capacity: u64, family: u8, p: u64, sizes: &[u32]) -> u64
+// The sum over the sizes before a place, and at the place: its count times its image more.
+fn with_size(
+    family: u8,
+    step: PreparedStep,
+    sizes: &[u32],
+    counts: &[u16],
+    sum: u64,
+    i: usize,
+) -> u64
+    requires { ⌜ Summable family step (now sizes) (now counts) × (i < length (now sizes))
+        × Summed (imageUnder family step) limit (now counts) (now sizes) sum i ⌝ }
+    ensures { λ r. ⌜ Summed (imageUnder family step) limit (now (counts .entry)) (now (sizes .entry)) r (i + 1) ⌝ }
+{
+    sum + counts[i] as u64 * image_of(family, step, sizes[i] as u64)
+}
+
+// Sums count times image over the sizes, two in a turn. No image is over the limit, so no sum passes 64
+// bits.
+pub(crate) fn sum_sizes(capacity: u64, family: u8, p: u64, sizes: &[u32], counts: &[u16]) -> u64
     requires { ⌜ (familyRefusal capacity family p 0 ≡ 0) × EachWithin capacity (now sizes)
-        × (length (now sizes) * limit < 2 ^ 64) ⌝ }
-    ensures { λ r. ⌜ r ≡ total (map (familyImage capacity family p 0) (now (sizes .entry))) ⌝ }
+        × (length (now counts) ≡ length (now sizes)) × (length (now sizes) * (mostCount * limit) < 2 ^ 64) ⌝ }
+    ensures { λ r. ⌜ (r ≡ weighted (now (counts .entry)) (map (familyImage capacity family p 0) (now (sizes .entry))))
+        × (r ≤ length (now (sizes .entry)) * (mostCount * limit)) ⌝ }
 {
     let step = prepare(capacity, family, p, 0);
     let mut sum = 0;
     let mut i = 0;
-    while i < sizes.len() {
-        sum += image_of(family, step, sizes[i] as u64);
-        i += 1;
+    while i + 1 < sizes.len() {
+        sum = with_size(family, step, sizes, counts, sum, i);
+        sum = with_size(family, step, sizes, counts, sum, i + 1);
+        i += 2;
+    }
+    if i < sizes.len() {
+        return with_size(family, step, sizes, counts, sum, i);
     }
     sum
 }

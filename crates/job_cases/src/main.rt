@@ -10,7 +10,7 @@ ghost use Prim.Native.Nat.{_≤_, _<_};
 ghost use lib.ListN.{length};
 
 // The most blocks of standard input that are read.
-const MOST_BLOCKS: usize = 32;
+const MOST_BLOCKS: usize = 64;
 
 // The most bytes of a job, one more than it may have, and the most runs.
 const MOST_BYTES: usize = fields::MOST_BYTES + 1;

@@ -12,7 +12,8 @@ use lib.ListN.{length, length-map, getD, take, drop}
 use lib.Seq.{take-at}
 use Rattle.functions.proofs.Cases.{not-refused, neither}
 use Rattle.tables.specs.Check.{mostEntries}
-use Rattle.fields.specs.Parts.{Field, Step, Row, jobKind, jobCapacity, jobSizes, jobSteps, jobRows, coefficientCount}
+use Rattle.fields.specs.Bytes.{halfwords}
+use Rattle.fields.specs.Parts.{Field, valueOf, Step, Row, jobKind, jobCapacity, jobSizes, jobCounts, jobSteps, jobRows, coefficientCount}
 use Rattle.fields.specs.Grammar.{mostBytes, mostSizes, mostRows, rowsKind}
 use Rattle.fields.specs.Reading.{refused, fieldsOf}
 use Rattle.fields.specs.Record.{JobReading, noRow}
@@ -94,7 +95,7 @@ fields-overshoot fields = go (eqb (jobKind fields) rowsKind) refl
     list : eqb (jobKind fields) rowsKind ≡ false → (test : Bool) → isKind (jobKind fields) ≡ test → Over (judgeFields fields)
     list other true is =
         rw (list-kind fields (eqb-false (jobKind fields) rowsKind other) is, other)
-        (list-overshoots (leastOf (jobKind fields)) (jobCapacity fields) (jobSizes fields) (jobSteps fields))
+        (list-overshoots (leastOf (jobKind fields)) (jobCapacity fields) (jobSizes fields) (halfwords (valueOf 7 fields)) (jobSteps fields))
     list other false is = rw (kind-refused fields is) (λ eleven. absurd (omega (arith, eleven)))
 
     go : (test : Bool) → eqb (jobKind fields) rowsKind ≡ test → Over (judgeFields fields)
@@ -139,7 +140,7 @@ module _ (job : List ℕ) (fine : judgeFields (fieldsIn job) .number ≡ 0) (beh
   unfolding acceptedAnswer
   job-safe =
       record {
-        floor-is-safe = λ kind bins h. rw (eq-eqb (jobKind (fieldsIn job)) 1 kind) (list-safe (fieldsIn job) fine behind more (λ other. omega (arith, kind, other)) .floor-is-safe (jobSizes (fieldsIn job)) bins h);
+        floor-is-safe = λ kind bins h. rw (eq-eqb (jobKind (fieldsIn job)) 1 kind) (list-safe (fieldsIn job) fine behind more (λ other. omega (arith, kind, other)) .floor-is-safe (jobCounts (fieldsIn job)) (jobSizes (fieldsIn job)) bins h);
         cut-holds = one-cut (fieldsIn job) fine behind more;
         every-row-holds = every-row (fieldsIn job) fine behind more;
       }

@@ -2,21 +2,24 @@
 use mathlib.Core.Path.{_≡_, ap, sym, _∙_}
 use mathlib.Core.Bool.{Bool, true, false, cond}
 use mathlib.Core.List.{List, _++_, map}
+use mathlib.Core.Logic.{inl, inr, ⊎-elim}
 use Prim.Native.Nat.{ℕ, _+_, _-_, _*_, _^_, _≤_, _<_}
 use native.Mathlib.Omega.{arith}
 use borrow.Author.Tests.{eq-eqb, ne-eqb}
 use lib.Dec.{eqb}
 use lib.ListN.{length, length-map, drop}
-use Rattle.functions.specs.Words.{total}
+use Rattle.functions.specs.Words.{mostCount, weighted}
 use Rattle.functions.specs.Families.{_up_}
 use Rattle.functions.specs.Promise.{StepPromise}
-use Rattle.fields.specs.Bytes.{words}
-use Rattle.fields.specs.Parts.{Field, jobKind, jobCapacity, jobSizes, jobSteps, jobRows, coefficientCount}
+use Rattle.fields.specs.Bytes.{halfwords, words}
+use Rattle.fields.specs.Parts.{Field, countsFor, jobKind, jobCapacity, jobSizes, jobCounts, jobSteps, jobRows, coefficientCount}
 use Rattle.fields.specs.Grammar.{mostSizes, mostRows, rowsKind}
-use Rattle.fields.specs.Record.{spanBytes, stepsIn, PartsOf}
+use Rattle.fields.specs.Record.{spanBytes, countBytes, stepsIn, PartsOf}
 use Rattle.fields.specs.declared.JobParts.{JobParts}
 use Rattle.chains.specs.Chain.{chainImage, chainScale, chainFloor}
 use Rattle.chains.specs.Apply.{ChainAppliable, ChainApplied}
+use Rattle.chains.specs.Sizes.{NoneOrEach}
+use Rattle.fields.proofs.Filling.{counts-length-is, sizes-count}
 use Rattle.jobs.specs.JudgeRows.{judgeRows}
 use Rattle.jobs.specs.Job.{judgeFields, rowScale, rowsImages, jobImages, jobCount, jobScales, acceptedAnswer, Finished}
 use Rattle.jobs.specs.declared.JobAnswer.{JobAnswer}
@@ -64,13 +67,24 @@ module _ (fields : List Field) (accepted : judgeFields fields .number ≡ 0) (li
       count : length images ≡ jobCount fields
       count = ap length (is .images-are) ∙ length-map (jobSizes fields) _ ∙ sym count-of
 
-      pub roundable : (sum : ℕ) → sum ≤ mostSizes * 2 ^ 32 → (0 < scale) × (sum + (scale - 1) < 2 ^ 64)
+      -- no counts, or one for each image
+      pub counted : NoneOrEach (countBytes job (parts .counts)) (length images)
+      counted =
+          let long = counts-length-is job (parts .counts) (h .counts-within) in
+          let each = sizes-count job fields parts h ∙ sym (length-map (jobSizes fields) _) ∙ sym (ap length (is .images-are)) in
+          ⊎-elim (λ none. inl (omega (arith, long))) (λ all. inr (omega (arith, long, each))) (h .none-or-each)
+
+      weighed : weighted (countsFor (halfwords (countBytes job (parts .counts))) (length images)) images ≡ weighted (jobCounts fields) (jobImages fields)
+      unfolding jobCounts
+      weighed = rw (images-are, h .counts-given, images-count fields, count-of)
+
+      pub roundable : (sum : ℕ) → sum ≤ mostSizes * (mostCount * 2 ^ 32) → (0 < scale) × (sum + (scale - 1) < 2 ^ 64)
       roundable sum l = (omega (arith, is .scale-is, promise .scale-positive), omega (arith, is .scale-is, promise .scale-within-limit))
 
-      pub floor-answer : parts .kind ≡ 1 → (sum floor : ℕ) → sum ≡ total images → floor ≡ (sum up scale) → record { number = 0; n = length images; floor = floor; sum = sum; scale = scale; step = 0; length = 0; row = 0 } ≡ acceptedAnswer fields
+      pub floor-answer : parts .kind ≡ 1 → (sum floor : ℕ) → sum ≡ weighted (countsFor (halfwords (countBytes job (parts .counts))) (length images)) images → floor ≡ (sum up scale) → record { number = 0; n = length images; floor = floor; sum = sum; scale = scale; step = 0; length = 0; row = 0 } ≡ acceptedAnswer fields
       unfolding acceptedAnswer chainFloor
       floor-answer kind sum floor summed rounded =
-          let whole : sum ≡ total (jobImages fields) = summed ∙ ap total images-are in
+          let whole : sum ≡ weighted (jobCounts fields) (jobImages fields) = summed ∙ weighed in
           rw (eq-eqb (jobKind fields) 1 (sym (h .kind-is) ∙ kind), ne-eqb (jobKind fields) rowsKind list, count, rounded, whole, is .scale-is, images-of)
 
       pub cut-answer : (parts .kind ≡ 1 → ⊥) → record { number = 0; n = length images; floor = 0; sum = 0; scale = scale; step = 0; length = 0; row = 0 } ≡ acceptedAnswer fields

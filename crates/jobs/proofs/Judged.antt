@@ -11,16 +11,17 @@ use borrow.Author.Tests.{eq-eqb, ne-eqb, leb-true}
 use lib.Dec.{leb}
 use lib.ListN.{length, getD, drop, drop-of-length-le}
 use lib.Seq.{drop-cons}
-use Rattle.fields.specs.Bytes.{words}
-use Rattle.fields.specs.Parts.{Field, Step, Row, jobKind, jobCapacity, jobSizes, jobSteps, jobRows, coefficientCount}
+use Rattle.fields.specs.Bytes.{halfwords, words}
+use Rattle.fields.specs.Parts.{Field, valueOf, Step, Row, jobKind, jobCapacity, jobSizes, jobCounts, jobSteps, jobRows, coefficientCount}
 use Rattle.fields.specs.Grammar.{mostSizes, mostRows, rowsKind}
-use Rattle.fields.specs.Record.{spanBytes, noRow, rowIn}
+use Rattle.fields.specs.Record.{spanBytes, countBytes, noSpan, noRow, rowIn}
 use Rattle.fields.specs.declared.RowPlace.{RowPlace}
 use Rattle.chains.specs.Chain.{TablesPass}
 use Rattle.chains.specs.Apply.{ChainAppliable}
 use Rattle.chains.specs.Judge.{Refusal, plain, judgeList, StepOvershoots, verdictOf, listBy, Judged}
 use Rattle.chains.specs.declared.Verdict.{Verdict}
-use Rattle.chains.proofs.Judged.{tables-pass, list-appliable, list-none, list-overshoots}
+use Rattle.fields.proofs.Filling.{no-counts}
+use Rattle.chains.proofs.Judged.{tables-pass, given-judged, list-appliable, list-none, list-overshoots}
 use Rattle.jobs.specs.Kinds.{isKind, leastOf, rowsFit}
 use Rattle.jobs.specs.JudgeRows.{judgeRow, inRow, judgeRows}
 use Rattle.jobs.specs.Job.{judgeFields}
@@ -44,16 +45,18 @@ module _ (S : List Step) where
 
   pub row-appliable : (r : Row) → judgeRow S r .number ≡ 0 → ChainAppliable (r .right-side) S (r .coefficients)
   unfolding judgeRow
-  row-appliable r e = list-appliable 0 (r .right-side) (r .coefficients) S e
+  row-appliable r e = list-appliable 0 (r .right-side) (r .coefficients) [] S e
 
   pub row-none : (r : Row) → judgeRow S r .number ≡ 0 → judgeRow S r ≡ plain 0
   unfolding judgeRow
-  row-none r e = list-none 0 (r .right-side) (r .coefficients) S e
+  row-none r e = list-none 0 (r .right-side) (r .coefficients) [] S e
 
   -- a row judged as the list of its coefficients
-  pub row-judged : (job : List ℕ) (row : RowPlace) (k : ℕ) (list : List ℕ) (v : Verdict) (list′ : List ℕ) → Judged (judgeList 0 (row .capacity) (words (spanBytes job (row .coefficients))) S) list v list′ → Judged (inRow (suc k) (judgeRow S (rowIn job row))) list (record { number = v .number; row = k + 1; step = v .step; length = v .length }) list′
+  pub row-judged : (job : List ℕ) (row : RowPlace) (k : ℕ) (list : List ℕ) (v : Verdict) (list′ : List ℕ) → Judged (judgeList 0 (row .capacity) (words (spanBytes job (row .coefficients))) (halfwords (countBytes job noSpan)) S) list v list′ → Judged (inRow (suc k) (judgeRow S (rowIn job row))) list (record { number = v .number; row = k + 1; step = v .step; length = v .length }) list′
   unfolding judgeRow rowIn inRow verdictOf listBy
-  row-judged job row k list v list′ j = record { verdict-is = rw (j .verdict-is, add-one k); list-is = j .list-is }
+  row-judged job row k list v list′ j =
+      let uncounted = rw (no-counts job) at j in
+      record { verdict-is = rw (uncounted .verdict-is, add-one k); list-is = uncounted .list-is }
 
   pub rows-accepted : (rows : List Row) (k : ℕ) → judgeRows k S rows .number ≡ 0 → (i : ℕ) → i < length rows → judgeRow S (getD rows i noRow) .number ≡ 0
   unfolding inRow
@@ -78,7 +81,7 @@ module _ (S : List Step) where
   unfolding inRow judgeRow
   over-here k r rows eleven =
       let first : suc k - suc k ≡ 0 = omega arith in
-      (omega arith, rw first (list-overshoots 0 (r .right-side) (r .coefficients) S eleven))
+      (omega arith, rw first (list-overshoots 0 (r .right-side) (r .coefficients) [] S eleven))
 
   pub rows-overshoot : (rows : List Row) (k : ℕ) → Over k rows (judgeRows k S rows)
   unfolding judgeRows plain
@@ -146,14 +149,14 @@ module _ (fields : List Field) where
         go false fits none = absurd (omega (arith, none))
 
   module _ (kind : jobKind fields ≡ rowsKind → ⊥) where
-    pub list-kind : isKind (jobKind fields) ≡ true → judgeFields fields ≡ judgeList (leastOf (jobKind fields)) (jobCapacity fields) (jobSizes fields) (jobSteps fields)
-    unfolding judgeFields
-    list-kind e = rw (e, ne-eqb (jobKind fields) rowsKind kind)
+    pub list-kind : isKind (jobKind fields) ≡ true → judgeFields fields ≡ judgeList (leastOf (jobKind fields)) (jobCapacity fields) (jobSizes fields) (halfwords (valueOf 7 fields)) (jobSteps fields)
+    unfolding judgeFields jobCounts
+    list-kind e = rw (e, ne-eqb (jobKind fields) rowsKind kind) (given-judged _ _ _ _ _ _)
 
     pub list-fine : judgeFields fields .number ≡ 0 → ChainAppliable (jobCapacity fields) (jobSteps fields) (jobSizes fields)
     unfolding plain
     list-fine e = go (isKind (jobKind fields)) refl
       where
         go : (test : Bool) → isKind (jobKind fields) ≡ test → ChainAppliable (jobCapacity fields) (jobSteps fields) (jobSizes fields)
-        go true is = list-appliable _ _ _ _ (sym (ap (λ (r : Refusal). r .number) (list-kind is)) ∙ e)
+        go true is = list-appliable _ _ _ _ _ (sym (ap (λ (r : Refusal). r .number) (list-kind is)) ∙ e)
         go false is = absurd (omega (arith, ap (λ (r : Refusal). r .number) (kind-refused is), e))

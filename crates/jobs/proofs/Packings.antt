@@ -1,7 +1,8 @@
--- P3: the floor of an accepted chain is at most the bins of every packing that fits, and its cut holds. The rows on packings, and the floor of the empty list.
+-- P3: the floor of an accepted chain is at most the bins of every packing of the copies that fits, and its cut holds. The rows on packings, the
+-- copies where each count is 1, and the floor of the empty list.
 use mathlib.Core.Path.{_≡_, refl, ap, sym, _∙_}
 use mathlib.Core.Bool.{Bool, true, false, cond, _||_, or-true, false≢true}
-use mathlib.Core.List.{List, [], _∷_, _++_, map, map-id}
+use mathlib.Core.List.{List, [], _∷_, map, map-id}
 use mathlib.Core.Logic.{_⊎_, inl, inr}
 use Prim.Native.Nat.{ℕ, _+_, _≤_}
 use native.Mathlib.Nat.{le-trans}
@@ -9,29 +10,40 @@ use native.Mathlib.Omega.{arith}
 use borrow.Author.Tests.{eqb-true, eq-eqb}
 use lib.Dec.{eqb}
 use lib.ListN.{length, replicate, length-map, getD}
-use Rattle.functions.specs.Words.{limit, total}
+use Rattle.functions.specs.Words.{limit, total, weighted}
 use Rattle.functions.specs.Families.{_up_}
 use Rattle.functions.specs.Promise.{StepPromise}
 use Rattle.functions.proofs.Superadditive.{total-append}
-use Rattle.functions.proofs.Totals.{total-none, total-cons, total-plus, total-repeated, feasible-images}
+use Rattle.functions.proofs.Totals.{total-none, total-cons, weighted-no-counts, weighted-none, weighted-cons, total-plus, total-repeated, feasible-images}
 use Rattle.functions.proofs.Mapped.{map-append}
 use Rattle.functions.proofs.Quotient.{up-zero, up-least}
 use Rattle.functions.proofs.Summed.{total-most}
 use Rattle.fields.specs.Parts.{Step}
 use Rattle.chains.specs.Chain.{chainImage, chainScale, ChainAccepted, chainFloor}
-use Rattle.jobs.specs.Packing.{load, Fits, member, distinct, binsUsed, weighted, ChainPromise}
+use Rattle.jobs.specs.Packing.{copies, load, Fits, member, distinct, binsUsed, ChainPromise}
 use Rattle.jobs.specs.Rows.{PackingRows}
 use Rattle.chains.proofs.Chains.{chain-promise}
 
 pub packing-rows : PackingRows
-unfolding load member distinct binsUsed weighted
+unfolding copies load member distinct binsUsed
 packing-rows =
-    record { load-of-two = refl; load-of-one = refl; load-of-none = refl; bins-used = refl; no-bins-used = refl; weighted-total = refl }
+    let all = weighted-cons 2 (0 ∷ 1 ∷ []) 7 (5 ∷ 3 ∷ []) in
+    let two = weighted-cons 0 (1 ∷ []) 5 (3 ∷ []) in
+    let one = weighted-cons 1 [] 3 [] in
+    record {
+      load-of-two = refl;
+      load-of-one = refl;
+      load-of-none = refl;
+      bins-used = refl;
+      no-bins-used = refl;
+      copies-counted = refl;
+      weighted-total = omega (arith, all, two, one, weighted-none []);
+    }
 
 -- "it is 0 for an empty list"
-pub empty-floor : (c : ℕ) (steps : List Step) → chainFloor c steps [] ≡ 0
+pub empty-floor : (c : ℕ) (steps : List Step) (counts : List ℕ) → chainFloor c steps counts [] ≡ 0
 unfolding chainFloor
-empty-floor c steps = ap (λ (sum : ℕ). sum up chainScale c steps) total-none ∙ up-zero (chainScale c steps)
+empty-floor c steps counts = ap (λ (sum : ℕ). sum up chainScale c steps) (weighted-none counts) ∙ up-zero (chainScale c steps)
 
 -- the sizes that a packing puts into bin b
 select : ℕ → List ℕ → List ℕ → List ℕ
@@ -91,39 +103,42 @@ distinct-covers (a ∷ bins) b e = go (member a bins) refl (either (eqb a b) (me
     go false is (inl same) rest = rw same
     go false is (inr later) rest = rw (rest later) (or-true (eqb a b))
 
--- a row with each coefficient as often as its count says
-expand : List ℕ → List ℕ → List ℕ
-expand [] row = []
-expand (n ∷ counts) [] = []
-expand (n ∷ counts) (a ∷ row) = replicate n a ++ expand counts row
+-- the total over the copies is the weighted sum: floors and cuts both rest on it
+copies-total : (f : ℕ → ℕ) (counts sizes : List ℕ) → total (map f (copies counts sizes)) ≡ weighted counts (map f sizes)
+unfolding copies
+copies-total f [] sizes = total-none ∙ sym (weighted-no-counts (map f sizes))
+copies-total f (n ∷ counts) [] = total-none ∙ sym (weighted-none (n ∷ counts))
+copies-total f (n ∷ counts) (x ∷ sizes) =
+    ap total (map-append f (replicate n x) (copies counts sizes))
+    ∙ total-append (map f (replicate n x)) (map f (copies counts sizes))
+    ∙ omega (arith, total-repeated f n x, copies-total f counts sizes, weighted-cons n counts (f x) (map f sizes))
 
-expanded : (f : ℕ → ℕ) (counts row : List ℕ) → total (map f (expand counts row)) ≡ weighted counts (map f row)
-unfolding expand weighted
-expanded f [] row = total-none
-expanded f (n ∷ counts) [] = total-none
-expanded f (n ∷ counts) (a ∷ row) =
-    ap total (map-append f (replicate n a) (expand counts row))
-    ∙ total-append (map f (replicate n a)) (map f (expand counts row))
-    ∙ omega (arith, total-repeated f n a, expanded f counts row)
+-- where each count is 1, the copies are the list
+pub copies-of-ones : (sizes : List ℕ) → copies (replicate (length sizes) 1) sizes ≡ sizes
+unfolding copies
+copies-of-ones [] = refl
+copies-of-ones (x ∷ sizes) = ap (λ (xs : List ℕ). x ∷ xs) (copies-of-ones sizes)
 
 module _ (c : ℕ) (steps : List Step) (l : 1 ≤ c) (m : c ≤ limit) (a : ChainAccepted c steps) where
   chain : StepPromise (chainImage c steps) c (chainScale c steps)
   chain = chain-promise steps c l m a
 
-  safe : (sizes bins : List ℕ) → Fits c sizes bins → chainFloor c steps sizes ≤ binsUsed bins
+  safe : (counts sizes bins : List ℕ) → Fits c (copies counts sizes) bins → chainFloor c steps counts sizes ≤ binsUsed bins
   unfolding chainFloor binsUsed
-  safe sizes bins h =
+  safe counts sizes bins h =
       let f = chainImage c steps in
-      let share : (b : ℕ) → load b (map f sizes) bins ≤ chainScale c steps = λ b. rw (load-of f b sizes bins) (feasible-images chain (select b sizes bins) (rw (load-is b sizes bins) at (h .within b))) in
-      up-least (chainScale c steps) (chain .scale-positive) (total (map f sizes)) (length (distinct bins))
+      let all = copies counts sizes in
+      let share : (b : ℕ) → load b (map f all) bins ≤ chainScale c steps = λ b. rw (load-of f b all bins) (feasible-images chain (select b all bins) (rw (load-is b all bins) at (h .within b))) in
+      rw (← (copies-total f counts sizes))
+      (up-least (chainScale c steps) (chain .scale-positive) (total (map f all)) (length (distinct bins))
       (le-trans
-      (covered (distinct bins) (map f sizes) bins (h .one-each ∙ sym (length-map sizes f)) (distinct-covers bins))
-      (total-most (λ b. load b (map f sizes) bins) (chainScale c steps) (distinct bins) (λ i l. share (getD (distinct bins) i 0))))
+      (covered (distinct bins) (map f all) bins (h .one-each ∙ sym (length-map all f)) (distinct-covers bins))
+      (total-most (λ b. load b (map f all) bins) (chainScale c steps) (distinct bins) (λ i l. share (getD (distinct bins) i 0)))))
 
   holds : (row counts : List ℕ) → length counts ≡ length row → weighted counts row ≤ c → weighted counts (map (chainImage c steps) row) ≤ chainScale c steps
   holds row counts e h =
-      let plain : total (expand counts row) ≡ weighted counts row = simp map-id at (expanded (λ x. x) counts row) in
-      rw (← (expanded (chainImage c steps) counts row)) (feasible-images chain (expand counts row) (omega (arith, plain, h)))
+      let plain : total (copies counts row) ≡ weighted counts row = simp map-id at (copies-total (λ x. x) counts row) in
+      rw (← (copies-total (chainImage c steps) counts row)) (feasible-images chain (copies counts row) (omega (arith, plain, h)))
 
   -- P3
   pub chain-is-safe : ChainPromise c steps

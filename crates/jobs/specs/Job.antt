@@ -1,4 +1,4 @@
--- The job operation of document 01, "Operations and what they refuse", and document 02, request 1: the answer, and what the lent buffers
+-- The job operation of document 01, "Operations and what they refuse", and document 02, requests 1 and 4: the answer, and what the lent buffers
 -- hold afterwards.
 use mathlib.Core.Bool.{cond, not, _||_}
 use mathlib.Core.Path.{_≡_}
@@ -6,27 +6,27 @@ use mathlib.Core.List.{List, [], _∷_, _++_, map}
 use Prim.Native.Nat.{ℕ, _-_, _≤_, _<_}
 use lib.Dec.{ltb, eqb}
 use lib.ListN.{length, getD, take, drop}
-use Rattle.functions.specs.Words.{total}
+use Rattle.functions.specs.Words.{weighted}
 use Rattle.tables.specs.Check.{mostEntries}
-use Rattle.fields.specs.Parts.{Field, Step, Row, jobKind, jobCapacity, jobSizes, jobSteps, jobRows, coefficientCount}
-use Rattle.fields.specs.Grammar.{mostBytes, mostSizes, mostRows, rowsKind}
+use Rattle.fields.specs.Parts.{Field, Step, Row, jobKind, jobCapacity, jobSizes, jobCounts, jobSteps, jobRows, coefficientCount}
+use Rattle.fields.specs.Grammar.{mostBytes, mostSizes, mostRows, floorKind, rowsKind}
 use Rattle.fields.specs.Reading.{Fields, refused, complete, jobFields, fieldsOf}
 use Rattle.fields.specs.Record.{noRow}
 use Rattle.chains.specs.Chain.{chainImage, chainScale, chainFloor}
-use Rattle.jobs.specs.Packing.{Fits, binsUsed, weighted}
+use Rattle.jobs.specs.Packing.{copies, Fits, binsUsed}
 use Rattle.jobs.specs.Kinds.{isKind, leastOf, rowsFit}
 use Rattle.chains.specs.Judge.{Refusal, plain, judgeList, listBy}
 use Rattle.jobs.specs.JudgeRows.{judgeRows}
 use Rattle.jobs.specs.declared.JobAnswer.{JobAnswer}
 
--- the kind, then capacity, sizes and steps, or the number of rows and each of them
+-- the kind, then capacity, sizes, counts and steps, or the number of rows and each of them
 unfoldable pub judgeFields : List Field → Refusal
 judgeFields fields =
     cond (not (isKind (jobKind fields))) (plain 16)
     (cond (eqb (jobKind fields) rowsKind)
     (cond (not (rowsFit (length (jobRows fields)) (coefficientCount (jobRows fields)))) (plain 21)
     (judgeRows 0 (jobSteps fields) (jobRows fields)))
-    (judgeList (leastOf (jobKind fields)) (jobCapacity fields) (jobSizes fields) (jobSteps fields)))
+    (judgeList (leastOf (jobKind fields)) (jobCapacity fields) (jobSizes fields) (jobCounts fields) (jobSteps fields)))
 
 unfoldable pub judgeReading : Fields → Refusal
 judgeReading (refused number) = plain number
@@ -84,8 +84,8 @@ acceptedAnswer fields =
     record {
       number = 0;
       n = jobCount fields;
-      floor = cond (eqb (jobKind fields) 1) (chainFloor (jobCapacity fields) (jobSteps fields) (jobSizes fields)) 0;
-      sum = cond (eqb (jobKind fields) 1) (total (jobImages fields)) 0;
+      floor = cond (eqb (jobKind fields) floorKind) (chainFloor (jobCapacity fields) (jobSteps fields) (jobCounts fields) (jobSizes fields)) 0;
+      sum = cond (eqb (jobKind fields) floorKind) (weighted (jobCounts fields) (jobImages fields)) 0;
       scale = cond (eqb (jobKind fields) rowsKind) 0 (chainScale (jobCapacity fields) (jobSteps fields));
       step = 0;
       length = 0;
@@ -148,8 +148,8 @@ unfoldable pub RowHolds : List Row → List ℕ → List ℕ → ℕ → Type 0
 RowHolds rows images scales i =
     CutHolds (getD rows i noRow .right-side) (getD rows i noRow .coefficients) (drop (coefficientCount (take i rows)) images) (getD scales i 0)
 
--- P4: what an accepted job answers is safe for its own list, or holds for its own row or rows. `images` and `scales` are the buffers afterwards
+-- P4: what an accepted job answers is safe for the copies of its own list, or holds for its own row or rows. `images` and `scales` are the buffers afterwards
 pub record JobSafe (job : List ℕ) (answer : JobAnswer) (images scales : List ℕ) : Type 0 where
-  pub floor-is-safe : jobKind (fieldsIn job) ≡ 1 → (bins : List ℕ) → Fits (jobCapacity (fieldsIn job)) (jobSizes (fieldsIn job)) bins → answer .floor ≤ binsUsed bins
+  pub floor-is-safe : jobKind (fieldsIn job) ≡ floorKind → (bins : List ℕ) → Fits (jobCapacity (fieldsIn job)) (copies (jobCounts (fieldsIn job)) (jobSizes (fieldsIn job))) bins → answer .floor ≤ binsUsed bins
   pub cut-holds : jobKind (fieldsIn job) ≡ 2 → CutHolds (jobCapacity (fieldsIn job)) (jobSizes (fieldsIn job)) images (answer .scale)
   pub every-row-holds : jobKind (fieldsIn job) ≡ rowsKind → (i : ℕ) → i < length (jobRows (fieldsIn job)) → RowHolds (jobRows (fieldsIn job)) images scales i

@@ -6,9 +6,9 @@ use lib.Dec.{eqb}
 use Rattle.fields.specs.Parts.{Step, Row}
 use Rattle.chains.specs.Judge.{Refusal, plain, judgeList}
 
--- a row in full, its right side as the capacity; a coefficient may be 0
+-- a row in full, its right side as the capacity; a coefficient may be 0, and none is counted
 unfoldable pub judgeRow : List Step → Row → Refusal
-judgeRow steps r = judgeList 0 (r .right-side) (r .coefficients) steps
+judgeRow steps r = judgeList 0 (r .right-side) (r .coefficients) [] steps
 
 unfoldable pub inRow : ℕ → Refusal → Refusal
 inRow k r = record { number = r .number; row = k; step = r .step; list = r .list }

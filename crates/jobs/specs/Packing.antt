@@ -1,12 +1,19 @@
--- What a floor and a cut are safe against: packings of a list of sizes into bins (document 01's assignments and windows), and counts of a row.
+-- What a floor and a cut are safe against: packings of the copies of a list of sizes into bins (document 01's assignments and windows), and counts of a row.
 use mathlib.Core.Bool.{Bool, false, cond, _||_}
 use mathlib.Core.Path.{_≡_}
-use mathlib.Core.List.{List, [], _∷_, map}
-use Prim.Native.Nat.{ℕ, _+_, _*_, _≤_}
+use mathlib.Core.List.{List, [], _∷_, _++_, map}
+use Prim.Native.Nat.{ℕ, _+_, _≤_}
 use lib.Dec.{eqb}
-use lib.ListN.{length}
+use lib.ListN.{length, replicate}
+use Rattle.functions.specs.Words.{weighted}
 use Rattle.fields.specs.Parts.{Step}
 use Rattle.chains.specs.Chain.{chainImage, chainScale, chainFloor}
+
+-- the copies of a list of sizes: each size as often as its count
+unfoldable pub copies : List ℕ → List ℕ → List ℕ
+copies [] sizes = []
+copies (n ∷ counts) [] = []
+copies (n ∷ counts) (x ∷ sizes) = replicate n x ++ copies counts sizes
 
 -- the total of the sizes that a packing puts into bin b; the packing has a bin for each size
 unfoldable pub load : ℕ → List ℕ → List ℕ → ℕ
@@ -31,13 +38,7 @@ distinct (b ∷ bins) = cond (member b bins) (distinct bins) (b ∷ distinct bin
 unfoldable pub binsUsed : List ℕ → ℕ
 binsUsed bins = length (distinct bins)
 
--- the total of count × coefficient
-unfoldable pub weighted : List ℕ → List ℕ → ℕ
-weighted [] row = 0
-weighted (n ∷ counts) [] = 0
-weighted (n ∷ counts) (a ∷ row) = n * a + weighted counts row
-
--- what is promised of a chain: its floor is at most the bins of every packing that fits, and its cut holds for all counts that satisfy the row
+-- what is promised of a chain: its floor is at most the bins of every packing of the copies that fits, and its cut holds for all counts that satisfy the row
 pub record ChainPromise (c : ℕ) (steps : List Step) : Type 0 where
-  pub floor-is-safe : (sizes bins : List ℕ) → Fits c sizes bins → chainFloor c steps sizes ≤ binsUsed bins
+  pub floor-is-safe : (counts sizes bins : List ℕ) → Fits c (copies counts sizes) bins → chainFloor c steps counts sizes ≤ binsUsed bins
   pub cut-holds : (row counts : List ℕ) → length counts ≡ length row → weighted counts row ≤ c → weighted counts (map (chainImage c steps) row) ≤ chainScale c steps

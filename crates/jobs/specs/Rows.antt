@@ -1,8 +1,9 @@
--- The definitions of packings and counts at small inputs. `proofs/Packings.antt` proves these rows, by computation.
+-- The definitions of copies, packings and counts at small inputs. `proofs/Packings.antt` proves these rows, by computation.
 use mathlib.Core.Path.{_≡_}
 use mathlib.Core.List.{List, [], _∷_}
 use Prim.Native.Nat.{ℕ}
-use Rattle.jobs.specs.Packing.{load, binsUsed, weighted}
+use Rattle.functions.specs.Words.{weighted}
+use Rattle.jobs.specs.Packing.{copies, load, binsUsed}
 
 abbrev sizes : List ℕ
 sizes = 7 ∷ 5 ∷ 3 ∷ []
@@ -17,4 +18,5 @@ pub record PackingRows : Type 0 where
   pub load-of-none : load 0 sizes bins ≡ 0
   pub bins-used : binsUsed bins ≡ 2
   pub no-bins-used : binsUsed [] ≡ 0
+  pub copies-counted : copies (2 ∷ 0 ∷ 1 ∷ []) sizes ≡ 7 ∷ 7 ∷ 3 ∷ []
   pub weighted-total : weighted (2 ∷ 0 ∷ 1 ∷ []) sizes ≡ 17

@@ -52,7 +52,7 @@ pub(crate) fn refuse_buffers(
 fn is_kind(kind: u8) -> bool
     ensures { λ r. ⌜ r ≡ isKind kind ⌝ }
 {
-    if kind == 1 {
+    if kind == fields::FLOOR_KIND {
         return true;
     }
     if kind == 2 {
@@ -64,7 +64,7 @@ fn is_kind(kind: u8) -> bool
 fn least_of(kind: u8) -> u64
     ensures { λ r. ⌜ r ≡ leastOf kind ⌝ }
 {
-    if kind == 1 {
+    if kind == fields::FLOOR_KIND {
         return 1;
     }
     0
@@ -144,6 +144,7 @@ fn judge_parts(
         steps,
         capacity,
         parts.sizes,
+        parts.counts,
         least,
         false,
         working,
@@ -161,8 +162,8 @@ fn finish_list(job: &[u8], parts: fields::JobParts, images: &mut [u32]) -> JobAn
     let steps = parts.steps;
     let scale = chains::apply::map_list(job, steps, parts.capacity, parts.sizes, images);
     let n = images.len() as u64;
-    if parts.kind == 1 {
-        let sum = chains::list::sum_of(images);
+    if parts.kind == fields::FLOOR_KIND {
+        let sum = chains::list::sum_of(fields::count_bytes(job, parts.counts), images);
         return accepted(n, functions::round_up(sum, scale), sum, scale);
     }
     accepted(n, 0, 0, scale)

@@ -40,11 +40,13 @@ fn judge_row(
 {
     let checked = 0 < k;
     let capacity = row.capacity;
+    let uncounted = fields::Span { at: 0, n: 0 };
     let judged = chains::judge::judge_list(
         job,
         steps,
         capacity,
         row.coefficients,
+        uncounted,
         0,
         checked,
         working,

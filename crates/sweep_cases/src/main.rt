@@ -1,13 +1,17 @@
 // Runs the sweep on the cases of standard input, a line each, in decimal, one space between:
-// c f low high n k and k runs. The list has n sizes: those of the runs (count, first, step) in turn,
-// each size of a run step more than the one before it, mod 2^32, and 0 behind them; what does not
-// fit is ignored. Writes a line for each answer: number, floor, p.
+// c f low high, then n k and k runs, then m j and j runs. The list has n sizes: those of its runs
+// (count, first, step) in turn, each size of a run step more than the one before it, mod 2^32, and 0
+// behind them; what does not fit is ignored. It has m counts, made of the j runs in the same way, mod
+// 2^16. Writes a line for each answer: number, floor, p.
 use libc::STDIN_FILENO;
 use libc::STDOUT_FILENO;
 ghost use Prim.Native.Nat.{_≤_, _<_};
 ghost use lib.ListN.{length};
 
-// The most sizes of a case, more than a list may have, and the most runs.
+// The most bytes of standard input that are read.
+const MOST_BYTES: usize = 262_144;
+
+// The most sizes of a case, more than a list may have, the most counts, and the most runs.
 const MOST_SIZES: usize = 2_100;
 
 // The numbers of a case before its list, and the place behind them.
@@ -73,14 +77,55 @@ fn write_answer(answer: sweeps::SweepAnswer) {
     io::write_all(STDOUT_FILENO, b"\n");
 }
 
-// Makes the list from k and the runs at a place, sweeps, and answers the place behind them.
-fn run_sweep(text: &[u8], at: usize, head: Head, sizes: &mut [u32]) -> usize
+// Makes a list from k and the runs at a place and answers the place behind them.
+fn put_list(text: &[u8], at: usize, list: &mut [u32]) -> usize
     ensures { λ r. ⌜ at ≤ r ⌝ }
 {
     let k = decimal::number_at(text, at);
-    let end = put_runs(text, k.next, sizes, buffers::at_most(k.value, MOST_SIZES));
-    write_answer(sweeps::windowfloor_sweep(head.capacity, head.family, sizes, head.low, head.high));
+    put_runs(text, k.next, list, buffers::at_most(k.value, MOST_SIZES))
+}
+
+// Makes the counts from j and the runs at a place, sweeps, and answers the place behind them.
+fn run_counted(
+    text: &[u8],
+    at: usize,
+    head: Head,
+    sizes: &[u32],
+    numbers: &mut [u32],
+    counts: &mut [u16],
+) -> usize
+    ensures { λ r. ⌜ at ≤ r ⌝ }
+{
+    let end = put_list(text, at, numbers);
+    buffers::fill_halves(counts, numbers);
+    write_answer(sweeps::windowfloor_sweep(
+        head.capacity,
+        head.family,
+        sizes,
+        counts,
+        head.low,
+        head.high,
+    ));
     end
+}
+
+// Makes the sizes from k and the runs at a place, and sweeps with the counts behind them.
+fn run_sweep(text: &[u8], at: usize, head: Head, sizes: &mut [u32]) -> usize
+    ensures { λ r. ⌜ at ≤ r ⌝ }
+{
+    let end = put_list(text, at, sizes);
+    let m = decimal::number_at(text, end);
+    let count = buffers::at_most(m.value, MOST_SIZES);
+    let mut numbers = [0u32; MOST_SIZES];
+    let mut counts = [0u16; MOST_SIZES];
+    run_counted(
+        text,
+        m.next,
+        head,
+        sizes,
+        &mut numbers[..count],
+        &mut counts[..count],
+    )
 }
 
 // Runs the case at a place and answers the place behind it.
@@ -102,7 +147,7 @@ fn run_cases(text: &[u8]) {
 }
 
 fn main() {
-    let mut buffer = io::large_buffer();
+    let mut buffer = [0u8; MOST_BYTES];
     let n = io::read_full(STDIN_FILENO, &mut buffer);
     run_cases(&buffer[..n]);
 }

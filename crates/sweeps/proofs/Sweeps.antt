@@ -7,26 +7,27 @@ use Prim.Native.Nat.{ℕ, zero, suc, _+_, _-_, _*_, _^_, _≤_, _<_, max, zero-l
 use native.Mathlib.Nat.{eq-zero-or-pos}
 use native.Mathlib.Numerals.{add-one}
 use native.Mathlib.Omega.{arith}
-use borrow.Author.Tests.{ltb-false, eqb-true, eq-eqb, ne-eqb}
+use borrow.Author.Tests.{not-false, ltb-false, eqb-true, eq-eqb, ne-eqb}
 use lib.Dec.{leb, ltb, eqb}
 use lib.ListN.{length}
-use Rattle.functions.specs.Words.{limit, capacityFits, total, EachWithin}
+use Rattle.functions.specs.Words.{limit, capacityFits, mostCount, weighted, EachWithin}
 use Rattle.functions.specs.Families.{_up_, familyImage, familyScale}
 use Rattle.functions.specs.Image.{familyRefusal, familyAnswer}
 use Rattle.functions.specs.Promise.{FamilyPromise}
+use Rattle.functions.specs.Summed.{Carriable}
 use Rattle.functions.specs.declared.FamilyAnswer.{FamilyAnswer}
 use Rattle.functions.proofs.Answers.{number-is, scale-is}
-use Rattle.functions.proofs.Cases.{lt-or-ge, not-refused, neither, cond-below}
+use Rattle.functions.proofs.Carried.{accepted-before}
+use Rattle.functions.proofs.Cases.{lt-or-ge, not-refused, neither, of-both, then-zero}
 use Rattle.functions.proofs.Legal.{passed, capacity-bounds}
 use Rattle.functions.proofs.Mapped.{map-append}
 use Rattle.functions.proofs.Promise.{family-promise}
-use Rattle.functions.proofs.Summed.{sum-small}
 use Rattle.fields.specs.Parts.{onFamily}
 use Rattle.fields.specs.Grammar.{mostSizes}
 use Rattle.chains.specs.Chain.{stepImage, stepScale, stepRefusal, chainImage, chainScale, ChainAccepted, chainFloor}
-use Rattle.jobs.specs.Packing.{Fits, binsUsed}
-use Rattle.chains.specs.Sizes.{sizesWithin}
-use Rattle.sweeps.specs.Sweep.{widest, sweepRefusal, Sweepable, Scaled, sweepFloor, passes, passing, largest, firstWith, refusedSweep, bestOf, sweepAnswer}
+use Rattle.jobs.specs.Packing.{copies, Fits, binsUsed}
+use Rattle.chains.specs.Sizes.{sizesWithin, countsPositive}
+use Rattle.sweeps.specs.Sweep.{widest, countedRefusal, rangeRefusal, sweepRefusal, Sweepable, SweepSum, SumAt, SumBefore, Better, WithParameter, sweepFloor, passes, passing, largest, firstWith, refusedSweep, bestOf, sweepAnswer}
 use Rattle.sweeps.specs.declared.SweepAnswer.{SweepAnswer}
 use Rattle.jobs.proofs.Packings.{chain-is-safe}
 use Rattle.chains.proofs.SizeTests.{sizes-most}
@@ -97,63 +98,93 @@ module _ (f : ℕ → ℕ) where
         let same : largest (map f ((q ∷ ps) ++ (p ∷ []))) ≡ f p = omega (arith, largest-more (q ∷ ps) (p ∷ []), largest-one p) in
         rw (same, first-new (f p) p (q ∷ ps) (omega arith) refl)
 
-module _ (c : ℕ) (sizes : List ℕ) (fine : Sweepable c sizes) where
+module _ (c : ℕ) (sizes counts : List ℕ) (fine : Sweepable c sizes counts) where
   pub sizes-each : EachWithin c sizes
   sizes-each = sizes-most 1 c sizes (fine .within)
 
-  pub few-enough : length sizes * limit < 2 ^ 64
+  pub few-enough : length sizes * (mostCount * limit) < 2 ^ 64
   few-enough = omega (arith, fine .few)
 
-module _ (c family : ℕ) (sizes : List ℕ) where
+  pub carriable : Carriable sizes counts
+  carriable = record { one-each = fine .one-each; few-counts = omega (arith, fine .few); few-sums = omega (arith, fine .few) }
+
+-- p passes exactly where its step is accepted
+pub passes-accepted : (c family p : ℕ) → passes c family p ≡ true → familyRefusal c family p 0 ≡ 0
+unfolding passes stepRefusal
+passes-accepted c family p e = eqb-true _ 0 e
+
+pub accepted-passes : (c family p : ℕ) → familyRefusal c family p 0 ≡ 0 → passes c family p ≡ true
+unfolding passes stepRefusal
+accepted-passes c family p e = eq-eqb _ 0 e
+
+pub sweep-sum : {c family p sum : ℕ} {sizes counts : List ℕ} → (sum ≡ weighted counts (map (familyImage c family p 0) sizes)) × (sum ≤ length sizes * (mostCount * limit)) → SweepSum c family sizes counts p sum
+sweep-sum h = record { sum-is = h .0; sum-most = h .1 }
+
+-- family 1: where p passes, so does the number before it, and its sum is at hand
+module _ (c p : ℕ) (l : 1 ≤ p) (e : passes c 1 p ≡ true) where
+  same : p - 1 + 1 ≡ p
+  same = omega arith
+
+  pub accepted-next : familyRefusal c 1 (p - 1 + 1) 0 ≡ 0
+  accepted-next = rw same (passes-accepted c 1 p e)
+
+  pub carried-on : (sizes counts : List ℕ) (sum : ℕ) → (sum ≡ weighted counts (map (familyImage c 1 (p - 1 + 1) 0) sizes)) × (sum ≤ length sizes * (mostCount * limit)) → SweepSum c 1 sizes counts p sum
+  carried-on sizes counts sum h = sweep-sum (rw same at h)
+
+pub sum-before : (c family : ℕ) (sizes counts : List ℕ) (p sum : ℕ) → 1 ≤ p → SumAt c family sizes counts (p - 1) sum → SumBefore c family sizes counts p sum
+sum-before c family sizes counts p sum l at one e =
+    let here : SumAt c 1 sizes counts (p - 1) sum = rw one at at in
+    here (accepted-passes c 1 (p - 1) (accepted-before c (p - 1) (accepted-next c p l e)))
+
+module _ (c family : ℕ) (sizes counts : List ℕ) where
   abbrev floors : ℕ → ℕ
-  floors = sweepFloor c family sizes
+  floors = sweepFloor c family sizes counts
 
-  -- the floor of an accepted p, as the code computes it
-  module _ (p scale : ℕ) (fine : Sweepable c sizes) (scaled : Scaled c family p scale) where
-    pub accepted : familyRefusal c family p 0 ≡ 0
-    unfolding stepRefusal
-    accepted = scaled .accepted
-
-    promise : FamilyPromise c family p 0
-    promise = family-promise c family p 0 accepted
-
-    scale-family : scale ≡ familyScale c family p 0
-    unfolding stepScale
-    scale-family = scaled .scale-is
-
-    module _ (sum : ℕ) (sum-is : sum ≡ total (map (familyImage c family p 0) sizes)) where
-      pub roundable : (0 < scale) × (sum + (scale - 1) < 2 ^ 64)
-      roundable =
-          (omega (arith, scale-family, promise .scale-positive), omega (arith, scale-family, promise .scale-within-limit, sum-is, sum-small c family p 0 sizes accepted (sizes-each c sizes fine), fine .few))
-
-      pub floor-is : (floor : ℕ) → floor ≡ (sum up scale) → floor ≡ floors p
-      unfolding sweepFloor chainFloor chainImage chainScale stepImage stepScale
-      floor-is floor rounded = rounded ∙ rw (sum-is, scale-family)
-
-  -- a turn of the loop: the step with p judged, and the best of the parameters before it
+  -- a turn of the loop: the step with p judged
   module _ (p : ℕ) (judged : FamilyAnswer) (judged-is : judged ≡ familyAnswer c family p 0) where
     number : judged .number ≡ familyRefusal c family p 0
     number = number-is c family p 0 judged judged-is
 
-    pub scaled : judged .number ≡ 0 → Scaled c family p (judged .scale)
-    unfolding stepRefusal stepScale
-    scaled none = record { accepted = sym number ∙ none; scale-is = scale-is c family p 0 judged judged-is (sym number ∙ none) }
+    pub turn-fails : (judged .number ≡ 0 → ⊥) → passes c family p ≡ true → ⊥
+    turn-fails some e = some (number ∙ passes-accepted c family p e)
 
-    module _ (best : SweepAnswer) (ps : List ℕ) (is : best ≡ bestOf floors ps) where
-      pub turn-refused : (judged .number ≡ 0 → ⊥) → best ≡ bestOf floors (ps ++ cond (passes c family p) (p ∷ []) [])
-      unfolding passes stepRefusal
-      turn-refused some = rw (ne-eqb (familyRefusal c family p 0) 0 (λ e. some (number ∙ e)), append-nil ps) is
+    pub turn-refused : (best : SweepAnswer) → (judged .number ≡ 0 → ⊥) → WithParameter best c family sizes counts p best
+    unfolding passes stepRefusal
+    turn-refused best some ps is = rw (ne-eqb (familyRefusal c family p 0) 0 (λ e. some (number ∙ e)), append-nil ps) is
 
-      module _ (none : judged .number ≡ 0) (floor : ℕ) (floored : floor ≡ floors p) where
-        p-passes : passes c family p ≡ true
-        unfolding passes stepRefusal
-        p-passes = eq-eqb (familyRefusal c family p 0) 0 (sym number ∙ none)
+    module _ (none : judged .number ≡ 0) where
+      pub turn-accepted : familyRefusal c family p 0 ≡ 0
+      turn-accepted = sym number ∙ none
 
-        pub turn-kept : best .number ≡ 0 → floor ≤ best .floor → best ≡ bestOf floors (ps ++ cond (passes c family p) (p ∷ []) [])
-        turn-kept found l = rw p-passes (best-kept floors best p ps is found (omega (arith, floored)))
+      promise : FamilyPromise c family p 0
+      promise = family-promise c family p 0 turn-accepted
 
-        pub turn-replaced : (best .number ≡ 0 → best .floor < floor) → record { number = 0; floor = floor; p = p } ≡ bestOf floors (ps ++ cond (passes c family p) (p ∷ []) [])
-        turn-replaced better = rw (p-passes, floored) (best-replaced floors best p ps is (λ found. omega (arith, better found, floored)))
+      scale-family : judged .scale ≡ familyScale c family p 0
+      scale-family = scale-is c family p 0 judged judged-is turn-accepted
+
+      pub turn-passes : passes c family p ≡ true
+      turn-passes = accepted-passes c family p turn-accepted
+
+      -- the floor as the code computes it
+      module _ (fine : Sweepable c sizes counts) (sum : ℕ) (summed : SweepSum c family sizes counts p sum) where
+        pub roundable : (0 < judged .scale) × (sum + (judged .scale - 1) < 2 ^ 64)
+        roundable =
+            (omega (arith, scale-family, promise .scale-positive), omega (arith, scale-family, promise .scale-within-limit, summed .sum-most, fine .few))
+
+        pub floor-is : (floor : ℕ) → floor ≡ (sum up judged .scale) → floor ≡ floors p
+        unfolding sweepFloor chainFloor chainImage chainScale stepImage stepScale
+        floor-is floor rounded = rounded ∙ rw (summed .sum-is, scale-family)
+
+      pub turn-better : (best next : SweepAnswer) (floor : ℕ) → floor ≡ floors p → Better best floor p next → WithParameter best c family sizes counts p next
+      turn-better best next floor floored better ps is = rw turn-passes (better floors ps is floored)
+
+-- p is better than the best so far, or not
+module _ (best : SweepAnswer) (floor p : ℕ) where
+  pub better-found : (best .number ≡ 0 → best .floor < floor) → Better best floor p (record { number = 0; floor = floor; p = p })
+  better-found better f ps is floored = rw floored (best-replaced f best p ps is (λ found. omega (arith, better found, floored)))
+
+  pub better-kept : best .number ≡ 0 → floor ≤ best .floor → Better best floor p best
+  better-kept found l f ps is floored = best-kept f best p ps is found (omega (arith, floored))
 
 pub passing-next : (c family low i : ℕ) → passing c family low (i + 1) ≡ passing c family low i ++ cond (passes c family (low + i)) ((low + i) ∷ []) []
 unfolding passing
@@ -175,61 +206,69 @@ best-floor f [] = refl
 best-floor f (p ∷ ps) = refl
 
 -- what refusals 1 to 19 leave
-pub record SweepFine (c : ℕ) (sizes : List ℕ) (low high : ℕ) : Type 0 where
+pub record SweepFine (c : ℕ) (sizes counts : List ℕ) (low high : ℕ) : Type 0 where
   pub capacity-positive : 1 ≤ c
   pub capacity-within-limit : c ≤ limit
-  pub sweepable : Sweepable c sizes
+  pub sweepable : Sweepable c sizes counts
   pub ascending : low ≤ high
   pub narrow : high - low ≤ widest
 
-module _ (c family : ℕ) (sizes : List ℕ) (low high : ℕ) where
-  pub sweep-fine : sweepRefusal c family sizes low high ≡ 0 → SweepFine c sizes low high
-  unfolding sweepRefusal
+module _ (c family : ℕ) (sizes counts : List ℕ) (low high : ℕ) where
+  pub sweep-fine : sweepRefusal c family sizes counts low high ≡ 0 → SweepFine c sizes counts low high
+  unfolding sweepRefusal countedRefusal rangeRefusal
   sweep-fine e =
       let one = passed (capacityFits c) 1 _ (omega arith) e in
       let two = passed (leb 1 family && leb family 5) 2 _ (omega arith) (one .1) in
-      let six = not-refused (ltb mostSizes (length sizes)) 6 _ (omega arith) (two .1) in
+      let both = then-zero (countedRefusal c sizes counts) (rangeRefusal low high) (two .1) in
+      let six = not-refused (ltb mostSizes (length sizes) || not (eqb (length counts) (length sizes))) 6 _ (omega arith) (both .0) in
+      let lengths = neither (ltb mostSizes (length sizes)) (not (eqb (length counts) (length sizes))) (six .0) in
       let seventeen = passed (sizesWithin 1 c sizes) 17 _ (omega arith) (six .1) in
-      let nineteen = neither (ltb high low) (ltb widest (high - low)) (not-refused _ 19 0 (omega arith) (seventeen .1) .0) in
+      let nineteen = neither (ltb high low) (ltb widest (high - low)) (not-refused _ 19 0 (omega arith) (both .1) .0) in
       let capacity = capacity-bounds c (one .0) in
       record {
         capacity-positive = capacity .0;
         capacity-within-limit = capacity .1;
-        sweepable = record { within = seventeen .0; few = ltb-false mostSizes (length sizes) (six .0) };
+        sweepable = record { within = seventeen .0; few = ltb-false mostSizes (length sizes) (lengths .0); one-each = eqb-true _ _ (not-false _ (lengths .1)) };
         ascending = ltb-false high low (nineteen .0);
         narrow = ltb-false widest (high - low) (nineteen .1);
       }
 
-  pub sweep-below : sweepRefusal c family sizes low high < 20
-  unfolding sweepRefusal
-  sweep-below =
-      cond-below (not (capacityFits c)) 20 1 _ (omega arith)
-      (cond-below (not (leb 1 family && leb family 5)) 20 2 _ (omega arith)
-      (cond-below (ltb mostSizes (length sizes)) 20 6 _ (omega arith)
-      (cond-below (not (sizesWithin 1 c sizes)) 20 17 _ (omega arith)
-      (cond-below (ltb high low || ltb widest (high - low)) 20 19 0 (omega arith) (omega arith)))))
+  abbrev Other : ℕ → Type 0
+  Other n = n ≡ 20 → ⊥
 
-  pub sweep-refused : (sweepRefusal c family sizes low high ≡ 0 → ⊥) → sweepAnswer c family sizes low high ≡ refusedSweep (sweepRefusal c family sizes low high)
+  -- 20 is told of a range alone
+  pub sweep-other : sweepRefusal c family sizes counts low high ≡ 20 → ⊥
+  unfolding sweepRefusal countedRefusal rangeRefusal
+  sweep-other =
+      of-both Other (not (capacityFits c)) 1 _ (λ e. omega arith)
+      (of-both Other (not (leb 1 family && leb family 5)) 2 _ (λ e. omega arith)
+      (of-both Other (eqb (countedRefusal c sizes counts) 0) (rangeRefusal low high) (countedRefusal c sizes counts)
+      (of-both Other (ltb high low || ltb widest (high - low)) 19 0 (λ e. omega arith) (λ e. omega arith))
+      (of-both Other (ltb mostSizes (length sizes) || not (eqb (length counts) (length sizes))) 6 _ (λ e. omega arith)
+      (of-both Other (not (sizesWithin 1 c sizes)) 17 _ (λ e. omega arith)
+      (of-both Other (not (countsPositive counts)) 22 0 (λ e. omega arith) (λ e. omega arith))))))
+
+  pub sweep-refused : (sweepRefusal c family sizes counts low high ≡ 0 → ⊥) → sweepAnswer c family sizes counts low high ≡ refusedSweep (sweepRefusal c family sizes counts low high)
   unfolding sweepAnswer
-  sweep-refused some = rw (ne-eqb (sweepRefusal c family sizes low high) 0 some)
+  sweep-refused some = rw (ne-eqb (sweepRefusal c family sizes counts low high) 0 some)
 
-  pub sweep-accepted : sweepRefusal c family sizes low high ≡ 0 → sweepAnswer c family sizes low high ≡ bestOf (sweepFloor c family sizes) (passing c family low (suc (high - low)))
+  pub sweep-accepted : sweepRefusal c family sizes counts low high ≡ 0 → sweepAnswer c family sizes counts low high ≡ bestOf (sweepFloor c family sizes counts) (passing c family low (suc (high - low)))
   unfolding sweepAnswer
   sweep-accepted none = rw none
 
-  module _ (bins : List ℕ) (fits : Fits c sizes bins) where
-    one-step : SweepFine c sizes low high → (p : ℕ) → passes c family p ≡ true → sweepFloor c family sizes p ≤ binsUsed bins
+  module _ (bins : List ℕ) (fits : Fits c (copies counts sizes) bins) where
+    one-step : SweepFine c sizes counts low high → (p : ℕ) → passes c family p ≡ true → sweepFloor c family sizes counts p ≤ binsUsed bins
     unfolding passes sweepFloor ChainAccepted
-    one-step fine p e = chain-is-safe c (onFamily family p 0 ∷ []) (fine .capacity-positive) (fine .capacity-within-limit) (eqb-true _ 0 e, Prim.tt) .floor-is-safe sizes bins fits
+    one-step fine p e = chain-is-safe c (onFamily family p 0 ∷ []) (fine .capacity-positive) (fine .capacity-within-limit) (eqb-true _ 0 e, Prim.tt) .floor-is-safe counts sizes bins fits
 
     -- P3 for the sweep: its floor is at most the bins of every packing that fits
-    pub sweep-is-safe : sweepAnswer c family sizes low high .floor ≤ binsUsed bins
+    pub sweep-is-safe : sweepAnswer c family sizes counts low high .floor ≤ binsUsed bins
     sweep-is-safe =
         ⊎-elim
-        (λ none. rw (sweep-accepted none, best-floor (sweepFloor c family sizes) (passing c family low (suc (high - low)))) (largest-most (sweepFloor c family sizes) (binsUsed bins) c family low (one-step (sweep-fine none)) (suc (high - low))))
+        (λ none. rw (sweep-accepted none, best-floor (sweepFloor c family sizes counts) (passing c family low (suc (high - low)))) (largest-most (sweepFloor c family sizes counts) (binsUsed bins) c family low (one-step (sweep-fine none)) (suc (high - low))))
         (λ some. rw (sweep-refused (omega arith)) zero-le)
-        (eq-zero-or-pos (sweepRefusal c family sizes low high))
+        (eq-zero-or-pos (sweepRefusal c family sizes counts low high))
 
 -- an answer that is the definition's is safe too
-pub sweep-promised : (c family : ℕ) (sizes : List ℕ) (low high : ℕ) (r : SweepAnswer) → r ≡ sweepAnswer c family sizes low high → (r ≡ sweepAnswer c family sizes low high) × ((bins : List ℕ) → Fits c sizes bins → r .floor ≤ binsUsed bins)
-sweep-promised c family sizes low high r e = (e, λ bins fits. rw e (sweep-is-safe c family sizes low high bins fits))
+pub sweep-promised : (c family : ℕ) (sizes counts : List ℕ) (low high : ℕ) (r : SweepAnswer) → r ≡ sweepAnswer c family sizes counts low high → (r ≡ sweepAnswer c family sizes counts low high) × ((bins : List ℕ) → Fits c (copies counts sizes) bins → r .floor ≤ binsUsed bins)
+sweep-promised c family sizes counts low high r e = (e, λ bins fits. rw e (sweep-is-safe c family sizes counts low high bins fits))

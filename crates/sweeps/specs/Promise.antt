@@ -12,11 +12,11 @@ pub record Eligible (c family low end q : ℕ) : Type 0 where
   pub passes-both : passes c family q ≡ true
 
 -- p gives the largest floor, and each p before it a smaller one
-pub record Largest (c family : ℕ) (sizes : List ℕ) (low end floor p : ℕ) : Type 0 where
+pub record Largest (c family : ℕ) (sizes counts : List ℕ) (low end floor p : ℕ) : Type 0 where
   pub eligible : Eligible c family low end p
-  pub floor-is : sweepFloor c family sizes p ≡ floor
-  pub largest-is : (q : ℕ) → Eligible c family low end q → sweepFloor c family sizes q ≤ floor
-  pub least-is : (q : ℕ) → Eligible c family low end q → q < p → sweepFloor c family sizes q < floor
+  pub floor-is : sweepFloor c family sizes counts p ≡ floor
+  pub largest-is : (q : ℕ) → Eligible c family low end q → sweepFloor c family sizes counts q ≤ floor
+  pub least-is : (q : ℕ) → Eligible c family low end q → q < p → sweepFloor c family sizes counts q < floor
 
 abbrev pub NoneEligible : ℕ → ℕ → ℕ → ℕ → Type 0
 NoneEligible c family low end = (q : ℕ) → Eligible c family low end q → ⊥

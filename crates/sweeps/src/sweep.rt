@@ -1,17 +1,23 @@
 // The sweep over a range of p: the largest one-step lower bound on bins, and the least p that gives it.
 use crate::SweepAnswer;
 ghost use mathlib.Core.Path.{_≡_};
+ghost use mathlib.Core.Bool.{true};
 ghost use Prim.Native.Nat.{suc, _-_, _≤_};
-ghost use Rattle.chains.specs.Sizes.{sizesWithin};
+ghost use Rattle.chains.specs.Sizes.{sizesWithin, countsPositive};
 ghost use Rattle.sweeps.specs.Sweep.{
   widest,
+  countedRefusal,
   sweepRefusal,
   sweepFloor,
+  passes,
   passing,
   bestOf,
   refusedSweep,
   Sweepable,
-  Scaled,
+  SweepSum,
+  SumAt,
+  SumBefore,
+  Better,
   WithParameter,
 };
 
@@ -46,9 +52,49 @@ fn sizes_fit(capacity: u64, sizes: &[u32]) -> bool
     true
 }
 
-// Refusals 1, 2, 6, 17 and 19, in this order.
-pub(crate) fn refuse_sweep(capacity: u64, family: u8, sizes: &[u32], low: u64, high: u64) -> u64
-    ensures { λ r. ⌜ r ≡ sweepRefusal capacity family (now (sizes .entry)) low high ⌝ }
+// Whether each count is 1 or more.
+fn counts_fit(counts: &[u16]) -> bool
+    ensures { λ r. ⌜ r ≡ countsPositive (now (counts .entry)) ⌝ }
+{
+    let mut i = 0;
+    while i < counts.len() {
+        if counts[i] < 1 {
+            return false;
+        }
+        i += 1;
+    }
+    true
+}
+
+// Refusals 6, 17 and 22 of a list and its counts, in this order.
+fn refuse_counted(capacity: u64, sizes: &[u32], counts: &[u16]) -> u64
+    ensures { λ r. ⌜ r ≡ countedRefusal capacity (now (sizes .entry)) (now (counts .entry)) ⌝ }
+{
+    if fields::MOST_SIZES < sizes.len() {
+        return 6;
+    }
+    if counts.len() != sizes.len() {
+        return 6;
+    }
+    if !sizes_fit(capacity, sizes) {
+        return 17;
+    }
+    if !counts_fit(counts) {
+        return 22;
+    }
+    0
+}
+
+// Refusals 1, 2, those of the list, and 19, in this order.
+pub(crate) fn refuse_sweep(
+    capacity: u64,
+    family: u8,
+    sizes: &[u32],
+    counts: &[u16],
+    low: u64,
+    high: u64,
+) -> u64
+    ensures { λ r. ⌜ r ≡ sweepRefusal capacity family (now (sizes .entry)) (now (counts .entry)) low high ⌝ }
 {
     if !functions::capacity_fits(capacity) {
         return 1;
@@ -59,11 +105,9 @@ pub(crate) fn refuse_sweep(capacity: u64, family: u8, sizes: &[u32], low: u64, h
     if 5 < family {
         return 2;
     }
-    if fields::MOST_SIZES < sizes.len() {
-        return 6;
-    }
-    if !sizes_fit(capacity, sizes) {
-        return 17;
+    let number = refuse_counted(capacity, sizes, counts);
+    if number != 0 {
+        return number;
     }
     if high < low {
         return 19;
@@ -72,15 +116,6 @@ pub(crate) fn refuse_sweep(capacity: u64, family: u8, sizes: &[u32], low: u64, h
         return 19;
     }
     0
-}
-
-// The floor of the step with p alone, which is accepted and has this scale.
-fn floor_of(capacity: u64, family: u8, p: u64, scale: u64, sizes: &[u32]) -> u64
-    requires { ⌜ Sweepable capacity (now sizes) × Scaled capacity family p scale ⌝ }
-    ensures { λ r. ⌜ r ≡ sweepFloor capacity family (now (sizes .entry)) p ⌝ }
-{
-    let sum = functions::sum_family(capacity, family, p, sizes);
-    functions::round_up(sum, scale)
 }
 
 fn found(floor: u64, p: u64) -> SweepAnswer
@@ -93,35 +128,29 @@ fn found(floor: u64, p: u64) -> SweepAnswer
     }
 }
 
-// The best of p alone: 20 where it does not pass.
-fn first_parameter(capacity: u64, family: u8, sizes: &[u32], p: u64) -> SweepAnswer
-    requires { ⌜ Sweepable capacity (now sizes) ⌝ }
-    ensures { λ r. ⌜ WithParameter (refusedSweep 20) capacity family (now (sizes .entry)) p r ⌝ }
-{
-    let judged = functions::judge_family(capacity, family, p, 0);
-    if judged.number != 0 {
-        return refused(20);
-    }
-    found(floor_of(capacity, family, p, judged.scale, sizes), p)
+// The best of the parameters so far, and the sum of the last one where that passed.
+struct Swept {
+    best: SweepAnswer,
+    sum: u64,
 }
 
-// The best of the parameters so far and p: p only where it passes and its floor is larger, or where
-// none passed before.
-fn with_parameter(
-    best: SweepAnswer,
-    capacity: u64,
-    family: u8,
-    sizes: &[u32],
-    p: u64,
-) -> SweepAnswer
-    requires { ⌜ Sweepable capacity (now sizes) ⌝ }
-    ensures { λ r. ⌜ WithParameter best capacity family (now (sizes .entry)) p r ⌝ }
+// The sum of p, which passes: in family 1 carried on from that of p - 1, in the others made anew.
+fn sum_at(capacity: u64, family: u8, p: u64, before: u64, sizes: &[u32], counts: &[u16]) -> u64
+    requires { ⌜ Sweepable capacity (now sizes) (now counts) × (passes capacity family p ≡ true) × (1 ≤ p)
+        × SumBefore capacity family (now sizes) (now counts) p before ⌝ }
+    ensures { λ r. ⌜ SweepSum capacity family (now (sizes .entry)) (now (counts .entry)) p r ⌝ }
 {
-    let judged = functions::judge_family(capacity, family, p, 0);
-    if judged.number != 0 {
-        return best;
+    if family == 1 {
+        return functions::carry_threshold(capacity, p - 1, before, sizes, counts);
     }
-    let floor = floor_of(capacity, family, p, judged.scale, sizes);
+    functions::sum_family(capacity, family, p, sizes, counts)
+}
+
+// The best of the parameters so far and p, which passes and has this floor: p only where its floor is
+// larger, or where none passed before.
+fn better(best: SweepAnswer, floor: u64, p: u64) -> SweepAnswer
+    ensures { λ r. ⌜ Better best floor p r ⌝ }
+{
     if best.number != 0 {
         return found(floor, p);
     }
@@ -131,24 +160,73 @@ fn with_parameter(
     found(floor, p)
 }
 
+// The best of p alone: 20 where it does not pass.
+fn first_parameter(capacity: u64, family: u8, sizes: &[u32], counts: &[u16], p: u64) -> Swept
+    requires { ⌜ Sweepable capacity (now sizes) (now counts) ⌝ }
+    ensures { λ r. ⌜ WithParameter (refusedSweep 20) capacity family (now (sizes .entry)) (now (counts .entry)) p
+        (r .best) × SumAt capacity family (now (sizes .entry)) (now (counts .entry)) p (r .sum) ⌝ }
+{
+    let judged = functions::judge_family(capacity, family, p, 0);
+    if judged.number != 0 {
+        return Swept {
+            best: refused(20),
+            sum: 0,
+        };
+    }
+    let sum = functions::sum_family(capacity, family, p, sizes, counts);
+    let floor = functions::round_up(sum, judged.scale);
+    Swept {
+        best: found(floor, p),
+        sum,
+    }
+}
+
+// The best of the parameters before p and p.
+fn with_parameter(
+    swept: Swept,
+    capacity: u64,
+    family: u8,
+    sizes: &[u32],
+    counts: &[u16],
+    p: u64,
+) -> Swept
+    requires { ⌜ Sweepable capacity (now sizes) (now counts) × (1 ≤ p)
+        × SumBefore capacity family (now sizes) (now counts) p (swept .sum) ⌝ }
+    ensures { λ r. ⌜ WithParameter (swept .best) capacity family (now (sizes .entry)) (now (counts .entry)) p (r .best)
+        × SumAt capacity family (now (sizes .entry)) (now (counts .entry)) p (r .sum) ⌝ }
+{
+    let judged = functions::judge_family(capacity, family, p, 0);
+    if judged.number != 0 {
+        return swept;
+    }
+    let sum = sum_at(capacity, family, p, swept.sum, sizes, counts);
+    let floor = functions::round_up(sum, judged.scale);
+    let best = swept.best;
+    Swept {
+        best: better(best, floor, p),
+        sum,
+    }
+}
+
 // The best parameter of the range, or 20 where none passes.
 pub(crate) fn sweep_range(
     capacity: u64,
     family: u8,
     sizes: &[u32],
+    counts: &[u16],
     low: u64,
     high: u64,
 ) -> SweepAnswer
-    requires { ⌜ Sweepable capacity (now sizes) × (low ≤ high) × (high - low ≤ widest) ⌝ }
-    ensures { λ r. ⌜ r ≡ bestOf (sweepFloor capacity family (now (sizes .entry)))
+    requires { ⌜ Sweepable capacity (now sizes) (now counts) × (low ≤ high) × (high - low ≤ widest) ⌝ }
+    ensures { λ r. ⌜ r ≡ bestOf (sweepFloor capacity family (now (sizes .entry)) (now (counts .entry)))
         (passing capacity family low (suc (high - low))) ⌝ }
 {
     let last = high - low;
-    let mut best = first_parameter(capacity, family, sizes, low);
+    let mut swept = first_parameter(capacity, family, sizes, counts, low);
     let mut offset = 1;
     while offset <= last {
-        best = with_parameter(best, capacity, family, sizes, low + offset);
+        swept = with_parameter(swept, capacity, family, sizes, counts, low + offset);
         offset += 1;
     }
-    best
+    swept.best
 }

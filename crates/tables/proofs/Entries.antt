@@ -9,7 +9,7 @@ use lib.Dec.{leb, ltb, eqb}
 use lib.ListN.{length, getD, drop}
 use lib.Seq.{drop-cons}
 use Rattle.functions.specs.Words.{limit}
-use Rattle.functions.proofs.Cases.{not-refused, neither, cond-below}
+use Rattle.functions.proofs.Cases.{not-refused, neither, of-both}
 use Rattle.tables.specs.Table.{entry, tableCapacity, tableScale}
 use Rattle.tables.specs.Check.{mostEntries, withinLimit, formRefusal, TableForm, lengthRefusal}
 
@@ -63,9 +63,9 @@ form-fine t h = rw (eq-eqb (entry t 0) 0 (h .first), ne-eqb (tableScale t) 0 (om
 pub form-below : (t : List ℕ) → formRefusal t < 11
 unfolding formRefusal
 form-below t =
-    cond-below (not (eqb (entry t 0) 0)) 11 8 _ (omega arith)
-    (cond-below (eqb (tableScale t) 0) 11 9 _ (omega arith)
-    (cond-below (not (withinLimit t)) 11 10 0 (omega arith) (omega arith)))
+    of-both (λ n. n < 11) (not (eqb (entry t 0) 0)) 8 _ (omega arith)
+    (of-both (λ n. n < 11) (eqb (tableScale t) 0) 9 _ (omega arith)
+    (of-both (λ n. n < 11) (not (withinLimit t)) 10 0 (omega arith) (omega arith)))
 
 -- what refusals 6 and 7 leave
 pub record Lengths (entries working list : ℕ) : Type 0 where
@@ -102,5 +102,5 @@ module _ (entries working list : ℕ) where
   pub length-below : lengthRefusal entries working list < 11
   unfolding lengthRefusal
   length-below =
-      cond-below (ltb entries 2 || ltb mostEntries entries) 11 6 _ (omega arith)
-      (cond-below (ltb working entries || ltb list (entries - 1)) 11 7 0 (omega arith) (omega arith))
+      of-both (λ n. n < 11) (ltb entries 2 || ltb mostEntries entries) 6 _ (omega arith)
+      (of-both (λ n. n < 11) (ltb working entries || ltb list (entries - 1)) 7 0 (omega arith) (omega arith))

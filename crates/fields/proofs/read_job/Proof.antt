@@ -3,7 +3,7 @@ use Rattle.fields.specs.Bytes.{headerBytes}
 -- `read_job` meets its contract: the loop's invariant is `SoFar`.
 use mathlib.Core.Path.{_≡_, ap, sym, _∙_}
 use native.Mathlib.Omega.{arith}
-use Prim.Native.Nat.{_+_, _-_, _≤_}
+use Prim.Native.Nat.{_+_, _-_, _^_, _≤_, _<_}
 use borrow.Author.Needs.{needs}
 use lib.ListN.{length, take, drop}
 use Rattle.fields.specs.Bytes.{headerOf, fieldValue}
@@ -41,14 +41,17 @@ tail-is c = to-the-end _ _ (c .before .loop .inv .place)
 header-read : (c : tie.After-read-header Inv-loop μ-loop) → c .read-header .result ≡ headerOf (drop (c .before .before .before .loop .at) (c .before .before .before .before .before .before .args .job .now))
 header-read c = c .read-header .ensures ∙ ap headerOf (tail-is (c .before .before))
 
-number-is : (c : tie.After-refuse-field Inv-loop μ-loop) → c .refuse-field .result ≡ headerRefusal (headerOf (drop (c .before .before .before .before .loop .at) (c .before .before .before .before .before .before .before .args .job .now))) (c .before .before .before .before .loop .parts .kind) (c .before .before .before .before .loop .last) (c .before .before .before .before .loop .parts .steps .count)
+number-is : (c : tie.After-refuse-field Inv-loop μ-loop) → c .refuse-field .result ≡ headerRefusal (headerOf (drop (c .before .before .before .before .loop .at) (c .before .before .before .before .before .before .before .args .job .now))) (c .before .before .before .before .loop .parts .kind) (c .before .before .before .before .loop .last) (c .before .before .before .before .loop .parts .steps .count) (c .before .before .before .before .loop .parts .sizes .n)
 number-is c = rw (header-read (c .before)) at (c .refuse-field .ensures)
 
-fine : (c : tie.Else1 Inv-loop μ-loop) → headerRefusal (headerOf (drop (c .before .before .before .before .before .loop .at) (c .before .before .before .before .before .before .before .before .args .job .now))) (c .before .before .before .before .before .loop .parts .kind) (c .before .before .before .before .before .loop .last) (c .before .before .before .before .before .loop .parts .steps .count) ≡ 0
+fine : (c : tie.Else1 Inv-loop μ-loop) → headerRefusal (headerOf (drop (c .before .before .before .before .before .loop .at) (c .before .before .before .before .before .before .before .before .args .job .now))) (c .before .before .before .before .before .loop .parts .kind) (c .before .before .before .before .before .loop .last) (c .before .before .before .before .before .loop .parts .steps .count) (c .before .before .before .before .before .loop .parts .sizes .n) ≡ 0
 fine c = sym (number-is (c .before)) ∙ c .if1 .left
 
 bounds : (c : tie.Else1 Inv-loop μ-loop) → c .before .before .before .before .before .loop .at + headerBytes + length (fieldValue (drop (c .before .before .before .before .before .loop .at) (c .before .before .before .before .before .before .before .before .args .job .now))) ≤ length (c .before .before .before .before .before .before .before .before .args .job .now)
 bounds c = value-end _ _ _ _ (c .before .before .before .before .before .loop .inv) (c .before .before .before .before .loop-test .taken) (fine c)
+
+short : (c : tie.Else1 Inv-loop μ-loop) → length (c .before .before .before .before .before .before .before .before .args .job .now) < 2 ^ 64
+short c = omega arith
 
 value-read : (c : tie.After-field-value Inv-loop μ-loop) → c .field-value .result .now ≡ fieldValue (drop (c .before .before .before .before .before .before .loop .at) (c .before .before .before .before .before .before .before .before .before .args .job .now))
 value-read c = c .field-value .ensures ∙ ap fieldValue (tail-is (c .before .before .before .before .before))
@@ -57,7 +60,7 @@ read-header-requires : tie.Need-read-header-requires Inv-loop μ-loop
 read-header-requires c κs = search needs
 
 refuse-field-requires : tie.Need-refuse-field-requires Inv-loop μ-loop
-refuse-field-requires c κs = search needs
+refuse-field-requires c κs = c .before .before .before .loop .inv .parts-are .sizes-most
 
 unread-requires : tie.Need-unread-requires Inv-loop μ-loop
 unread-requires c κs = search needs
@@ -80,7 +83,7 @@ with-field-requires c κs =
     (fillable _ _ _ _ (d .before .before .before .before .before .loop .inv) (d .before .before .before .before .loop-test .taken) (fine d) (omega arith))
 
 add-at : tie.Need-add-at Inv-loop μ-loop
-add-at c = omega (arith, bounds (c .before .before), ap length (value-read (c .before)))
+add-at c = omega (arith, bounds (c .before .before), short (c .before .before), ap length (value-read (c .before)))
 
 loop-less : tie.Need-loop-less Inv-loop μ-loop
 loop-less c = omega (arith, bounds (c .before .before), ap length (value-read (c .before)))

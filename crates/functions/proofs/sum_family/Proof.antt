@@ -5,25 +5,25 @@ use Rattle.functions.proofs.Legal.{accepted, single-most}
 use Rattle.functions.proofs.sum_family.Statement.{statement}
 use Rattle.functions.proofs.sum_family.Tie as tie
 
-last : (c : tie.At-match-rest) → c .before .before .args .family ≡ 5
+last : (c : tie.At-match-rest) → c .before .before .before .args .family ≡ 5
 last c =
-    let a = accepted _ _ _ _ (c .before .before .pre .0) in
-    omega (arith, single-most _ _ _ (c .before .before .pre .0))
+    let a = accepted _ _ _ _ (c .before .before .before .pre .0) in
+    omega (arith, single-most _ _ _ (c .before .before .before .pre .0))
 
 sum-sizes-requires : tie.Need-sum-sizes-requires
-sum-sizes-requires c κs = rw (c .match .keys1) at (c .before .before .pre)
+sum-sizes-requires c κs = rw (c .match .keys1) at (c .before .before .before .pre)
 
 sum-sizes-requires-2 : tie.Need-sum-sizes-requires-2
-sum-sizes-requires-2 c κs = rw (c .match .keys2) at (c .before .before .pre)
+sum-sizes-requires-2 c κs = rw (c .match .keys2) at (c .before .before .before .pre)
 
 sum-sizes-requires-3 : tie.Need-sum-sizes-requires-3
-sum-sizes-requires-3 c κs = rw (c .match .keys3) at (c .before .before .pre)
+sum-sizes-requires-3 c κs = rw (c .match .keys3) at (c .before .before .before .pre)
 
 sum-sizes-requires-4 : tie.Need-sum-sizes-requires-4
-sum-sizes-requires-4 c κs = rw (c .match .keys4) at (c .before .before .pre)
+sum-sizes-requires-4 c κs = rw (c .match .keys4) at (c .before .before .before .pre)
 
 sum-sizes-requires-5 : tie.Need-sum-sizes-requires-5
-sum-sizes-requires-5 c κs = rw (last c) at (c .before .before .pre)
+sum-sizes-requires-5 c κs = rw (last c) at (c .before .before .before .pre)
 
 returns : tie.Need-returns
 returns c = rw (c .before .match .keys1) (c .sum-sizes .ensures)

@@ -4,10 +4,10 @@ use mathlib.Core.Bool.{true}
 use borrow.Author.Tests.{not-true, not-false}
 use lib.ListN.{length}
 use Rattle.functions.specs.Words.{capacityFits}
-use Rattle.fields.specs.Bytes.{words}
-use Rattle.fields.specs.Record.{spanBytes}
-use Rattle.fields.proofs.Filling.{span-length}
-use Rattle.chains.specs.Sizes.{sizesWithin, listRefusal}
+use Rattle.fields.specs.Bytes.{halfwords, words}
+use Rattle.fields.specs.Record.{spanBytes, countBytes}
+use Rattle.fields.proofs.Filling.{span-length, counts-length-is}
+use Rattle.chains.specs.Sizes.{sizesWithin, countsPositive, listRefusal}
 use borrow.Author.Needs.{needs}
 use Rattle.chains.proofs.list.refuse_list.Statement.{statement}
 use Rattle.chains.proofs.list.refuse_list.Tie as tie
@@ -23,7 +23,7 @@ span-bytes-requires : tie.Need-span-bytes-requires
 span-bytes-requires c κs = search needs
 
 sizes-within-requires : tie.Need-sizes-within-requires
-sizes-within-requires c κs = ap length (c .span-bytes .ensures) ∙ span-length _ _ (c .before .before .before .before .pre)
+sizes-within-requires c κs = ap length (c .span-bytes .ensures) ∙ span-length _ _ (c .before .before .before .before .pre .0)
 
 capacity-is : (c : tie.Else1) → capacityFits (c .before .before .before .args .capacity) ≡ true
 capacity-is c = sym (c .before .capacity-fits .ensures) ∙ not-false _ (c .if1 .left)
@@ -35,9 +35,25 @@ returns-2 : tie.Need-returns-2
 unfolding listRefusal
 returns-2 c = rw (capacity-is (c .before .before .before), within-is (c .before) ∙ not-true _ (c .if2 .taken))
 
+passed-sizes : (c : tie.Else2) → sizesWithin (c .before .before .before .before .before .before .args .least) (c .before .before .before .before .before .before .args .capacity) (words (spanBytes (c .before .before .before .before .before .before .args .job .now) (c .before .before .before .before .before .before .args .sizes))) ≡ true
+passed-sizes c = within-is (c .before) ∙ not-false _ (c .if2 .left)
+
+count-bytes-requires : tie.Need-count-bytes-requires
+count-bytes-requires c κs = search needs
+
+counts-positive-requires : tie.Need-counts-positive-requires
+counts-positive-requires c κs = ap length (c .count-bytes .ensures) ∙ counts-length-is _ _ (c .before .before .before .before .before .before .before .pre .1)
+
+positive-is : (c : tie.After-counts-positive) → countsPositive (halfwords (countBytes (c .before .before .before .before .before .before .before .before .args .job .now) (c .before .before .before .before .before .before .before .before .args .counts))) ≡ c .counts-positive .result
+positive-is c = sym (c .counts-positive .ensures ∙ rw (c .before .count-bytes .ensures))
+
 returns-3 : tie.Need-returns-3
 unfolding listRefusal
-returns-3 c = rw (capacity-is (c .before .before .before), within-is (c .before) ∙ not-false _ (c .if2 .left))
+returns-3 c = rw (capacity-is (c .before .before .before .before .before .before), passed-sizes (c .before .before .before), positive-is (c .before) ∙ not-true _ (c .if3 .taken))
+
+returns-4 : tie.Need-returns-4
+unfolding listRefusal
+returns-4 c = rw (capacity-is (c .before .before .before .before .before .before), passed-sizes (c .before .before .before), positive-is (c .before) ∙ not-false _ (c .if3 .left))
 
 pub refuse-list-spec : {M : Type 1} → statement M
 refuse-list-spec =
@@ -48,4 +64,7 @@ refuse-list-spec =
     span-bytes-requires
     sizes-within-requires
     returns-2
-    returns-3)
+    count-bytes-requires
+    counts-positive-requires
+    returns-3
+    returns-4)

@@ -8,7 +8,7 @@ use lib.ListN.{length, getD, drop}
 use Rattle.fields.specs.Bytes.{words}
 use Rattle.chains.specs.Sizes.{sizesWithin}
 use Rattle.fields.proofs.Decoding.{words-length, word-of}
-use Rattle.chains.proofs.SizeTests.{size-fails, size-fits, sizes-passed}
+use Rattle.chains.proofs.SizeTests.{each-fails, each-holds, each-passed}
 use Rattle.chains.proofs.list.sizes_within.Statement.{statement}
 use Rattle.chains.proofs.list.sizes_within.Tie as tie
 
@@ -42,7 +42,7 @@ is-within-requires c κs = search needs
 returns : tie.Need-returns Inv-loop μ-loop
 returns c =
     let turn = c .before .before in
-    sym (turn .before .before .loop .inv .1 ∙ size-fails _ _ _ _ _ (read-is turn) (before-end turn) (sym (c .before .is-within .ensures) ∙ not-true _ (c .if1 .taken)))
+    sym (turn .before .before .loop .inv .1 ∙ each-fails _ _ _ _ (read-is turn) (before-end turn) (sym (c .before .is-within .ensures) ∙ not-true _ (c .if1 .taken)))
 
 add-i : tie.Need-add-i Inv-loop μ-loop
 add-i c = omega arith
@@ -53,13 +53,13 @@ loop-less c = omega arith
 loop-again : tie.Need-loop-again Inv-loop μ-loop
 loop-again c =
     let turn = c .before .before in
-    (omega arith, turn .before .before .loop .inv .1 ∙ size-fits _ _ _ _ _ (read-is turn) (before-end turn) (sym (c .before .is-within .ensures) ∙ not-false _ (c .if1 .left)))
+    (omega arith, turn .before .before .loop .inv .1 ∙ each-holds _ _ _ _ (read-is turn) (before-end turn) (sym (c .before .is-within .ensures) ∙ not-false _ (c .if1 .left)))
 
 returns-2 : tie.Need-returns-2 Inv-loop μ-loop
 returns-2 c =
     let start = c .before .before .before in
     let all = words-length (start .args .n) (start .args .bytes .now) (start .pre) in
-    sym (c .before .loop .inv .1 ∙ sizes-passed _ _ _ (c .before .loop .i) (omega (arith, all, c .loop-test .left)))
+    sym (c .before .loop .inv .1 ∙ each-passed _ _ (c .before .loop .i) (omega (arith, all, c .loop-test .left)))
 
 pub sizes-within-spec : {M : Type 1} → statement M
 sizes-within-spec =

@@ -1,22 +1,33 @@
--- `sum_of` meets its contract: the sum so far and the total of what is left are the whole total.
-use mathlib.Core.Path.{_≡_, ap, _∙_}
-use Prim.Native.Nat.{_+_, _-_, _*_, _≤_}
-use native.Mathlib.Numerals.{add-one}
+-- `sum_of` meets its contract: each turn adds the next count times its number.
+use mathlib.Core.Path.{_≡_, refl}
+use mathlib.Core.List.{map-id}
+use mathlib.Core.Logic.{inl, inr, ⊎-elim}
+use Prim.Native.Nat.{_-_}
 use native.Mathlib.Omega.{arith}
-use lib.ListN.{length, drop, drop-of-length-le}
-use Rattle.functions.specs.Words.{total}
-use Rattle.functions.proofs.Totals.{total-none, total-next}
+use lib.ListN.{length}
+use Rattle.functions.specs.Summed.{Summed}
+use Rattle.functions.proofs.Summed.{summed-start, summed-next, summed-end}
+use Rattle.fields.specs.Bytes.{halfwords}
+use Rattle.fields.specs.Parts.{countsFor}
+use Rattle.chains.proofs.Counts.{counts-length}
 use Rattle.chains.proofs.list.sum_of.Statement.{statement}
 use Rattle.chains.proofs.list.sum_of.Tie as tie
 
 abbrev Inv-loop : tie.InvT-loop
-Inv-loop list sum₀ i₀ sum i = (i ≤ length list) × (sum ≤ i * 4294967296) × (sum + total (drop i list) ≡ total list)
+Inv-loop bytes list sum₀ i₀ sum i = Summed (λ x. x) 4294967296 (countsFor (halfwords bytes) (length list)) list sum i
 
 abbrev μ-loop : tie.MeasureT-loop
-μ-loop list sum₀ i₀ sum i = length list - i
+μ-loop bytes list sum₀ i₀ sum i = length list - i
+
+-- as many counts as numbers
+same-count : (c : tie.Start Inv-loop μ-loop) → length (countsFor (halfwords (c .args .bytes .now)) (length (c .args .list .now))) ≡ length (c .args .list .now)
+same-count c = counts-length _ _ (c .pre .0)
 
 loop-holds : tie.Need-loop-holds Inv-loop μ-loop
-loop-holds c = (omega arith, omega arith, omega arith)
+loop-holds c = summed-start _ _ _ _ (same-count (c .before .before))
+
+count-at-requires : tie.Need-count-at-requires Inv-loop μ-loop
+count-at-requires c κs = ⊎-elim (λ none. inl none) (λ whole. inr (omega arith)) (c .before .before .before .before .pre .0)
 
 mul-sum : tie.Need-mul-sum Inv-loop μ-loop
 mul-sum c = omega arith
@@ -25,10 +36,20 @@ shared-slice-read-sum : tie.Need-shared-slice-read-sum Inv-loop μ-loop
 shared-slice-read-sum c = omega arith
 
 cast-sum : tie.Need-cast-sum Inv-loop μ-loop
-cast-sum c = omega (arith, c .shared-slice-known .given (c .before .before .loop .i))
+cast-sum c = omega (arith, c .shared-slice-known3 .given (c .before .before .before .loop .i))
+
+loop-again : tie.Need-loop-again Inv-loop μ-loop
+loop-again c =
+    let start = c .before .before .before .before .before .before in
+    let turn = c .before .before in
+    let counted = c .before .count-at .ensures in
+    summed-next _ _ _ _ (same-count start) _ _ (turn .before .loop .inv) _ _ (turn .loop-test .taken) (counted .1 _ (turn .loop-test .taken) (start .pre .0)) refl (counted .0) (omega (arith, c .shared-slice-known3 .given (turn .before .loop .i)))
+
+mul-sum-2 : tie.Need-mul-sum-2 Inv-loop μ-loop
+mul-sum-2 c = omega (arith, loop-again c .sum-most)
 
 add-sum : tie.Need-add-sum Inv-loop μ-loop
-add-sum c = omega (arith, c .shared-slice-known .given (c .before .before .loop .i))
+add-sum c = omega (arith, loop-again c .sum-most)
 
 add-i : tie.Need-add-i Inv-loop μ-loop
 add-i c = omega arith
@@ -36,18 +57,11 @@ add-i c = omega arith
 loop-less : tie.Need-loop-less Inv-loop μ-loop
 loop-less c = omega arith
 
-loop-again : tie.Need-loop-again Inv-loop μ-loop
-loop-again c =
-    let loop = c .before .before .loop in
-    let small = c .shared-slice-known .given (loop .i) in
-    let rest = total-next (c .before .before .before .args .list .now) (loop .i) (c .before .loop-test .taken) in
-    (omega arith, omega (arith, small), rw add-one (omega (arith, rest, loop .inv .2)))
-
 returns : tie.Need-returns Inv-loop μ-loop
 returns c =
-    let loop = c .before .loop in
-    let none = ap total (drop-of-length-le (c .before .before .args .list .now) {i = loop .i} (c .loop-test .left)) ∙ total-none in
-    (omega (arith, none, loop .inv .2), omega arith)
+    let start = c .before .before .before .before in
+    let whole = summed-end _ _ _ _ (same-count start) _ _ (c .before .loop .inv) (c .loop-test .left) in
+    (rw map-id at whole, omega (arith, c .before .loop .inv))
 
 pub sum-of-spec : {M : Type 1} → statement M
 sum-of-spec =
@@ -56,9 +70,11 @@ sum-of-spec =
     Inv-loop
     μ-loop
     loop-holds
+    count-at-requires
     mul-sum
     shared-slice-read-sum
     cast-sum
+    mul-sum-2
     add-sum
     add-i
     loop-less

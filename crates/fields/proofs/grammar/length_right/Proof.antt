@@ -5,6 +5,9 @@ use borrow.Author.Needs.{needs}
 use Rattle.fields.proofs.grammar.length_right.Statement.{statement}
 use Rattle.fields.proofs.grammar.length_right.Tie as tie
 
+mul-result : tie.Need-mul-result
+mul-result c = search needs
+
 table-length-right-requires : tie.Need-table-length-right-requires
 table-length-right-requires c κs = search needs
 
@@ -38,20 +41,25 @@ returns-7 c = rw (c .before .match .keys5, ne-eqb _ 0 (c .if2 .left))
 
 returns-8 : tie.Need-returns-8
 unfolding lengthRight
-returns-8 c =
-    let rest = c .before .before .match .rest in
-    rw (ne-eqb _ 1 (rest .0 .0 .0 .0 .1), ne-eqb _ 2 (rest .0 .0 .0 .1), ne-eqb _ 3 (rest .0 .0 .1), ne-eqb _ 4 (rest .0 .1), ne-eqb _ 6 (rest .1), eq-eqb _ 0 (c .before .if3 .taken)) (c .table-length-right .ensures)
+returns-8 c = rw (c .match .keys6)
 
 returns-9 : tie.Need-returns-9
 unfolding lengthRight
 returns-9 c =
+    let rest = c .before .before .match .rest in
+    rw (ne-eqb _ 1 (rest .0 .0 .0 .0 .0 .1), ne-eqb _ 2 (rest .0 .0 .0 .0 .1), ne-eqb _ 3 (rest .0 .0 .0 .1), ne-eqb _ 4 (rest .0 .0 .1), ne-eqb _ 6 (rest .0 .1), ne-eqb _ 7 (rest .1), eq-eqb _ 0 (c .before .if3 .taken)) (c .table-length-right .ensures)
+
+returns-10 : tie.Need-returns-10
+unfolding lengthRight
+returns-10 c =
     let rest = c .before .match .rest in
-    rw (ne-eqb _ 1 (rest .0 .0 .0 .0 .1), ne-eqb _ 2 (rest .0 .0 .0 .1), ne-eqb _ 3 (rest .0 .0 .1), ne-eqb _ 4 (rest .0 .1), ne-eqb _ 6 (rest .1), ne-eqb _ 0 (c .if3 .left))
+    rw (ne-eqb _ 1 (rest .0 .0 .0 .0 .0 .1), ne-eqb _ 2 (rest .0 .0 .0 .0 .1), ne-eqb _ 3 (rest .0 .0 .0 .1), ne-eqb _ 4 (rest .0 .0 .1), ne-eqb _ 6 (rest .0 .1), ne-eqb _ 7 (rest .1), ne-eqb _ 0 (c .if3 .left))
 
 pub length-right-spec : {M : Type 1} → statement M
 length-right-spec =
     tie.close
     (tie.spec
+    mul-result
     table-length-right-requires
     returns
     returns-2
@@ -61,4 +69,5 @@ length-right-spec =
     returns-6
     returns-7
     returns-8
-    returns-9)
+    returns-9
+    returns-10)

@@ -1,9 +1,10 @@
 -- `no_parts` meets its contract: no field has no part.
 use mathlib.Core.Path.{refl}
+use mathlib.Core.Logic.{inl}
 use native.Mathlib.Omega.{arith}
-use Rattle.fields.specs.Bytes.{word, words, wordsFrom}
+use Rattle.fields.specs.Bytes.{halfword, word, words, numbersFrom}
 use Rattle.fields.specs.Parts.{valueOf, jobKind, jobCapacity, jobSizes, chosen, jobSteps, jobRows, coefficientCount}
-use Rattle.fields.specs.Record.{spanBytes, stepsIn}
+use Rattle.fields.specs.Record.{spanBytes, countBytes, stepsIn}
 use borrow.Author.Needs.{needs}
 use Rattle.fields.proofs.parts.no_parts.Statement.{statement}
 use Rattle.fields.proofs.parts.no_parts.Tie as tie
@@ -12,7 +13,7 @@ table-step-requires : tie.Need-table-step-requires
 table-step-requires c κs = search needs
 
 returns : tie.Need-returns
-unfolding valueOf jobKind jobCapacity jobSizes chosen jobSteps jobRows coefficientCount spanBytes stepsIn word words wordsFrom
+unfolding valueOf jobKind jobCapacity jobSizes chosen jobSteps jobRows coefficientCount spanBytes stepsIn countBytes halfword word words numbersFrom
 returns c =
     λ job.
     record {
@@ -21,6 +22,9 @@ returns c =
       sizes-are = refl;
       sizes-within = omega arith;
       sizes-most = omega arith;
+      counts-given = refl;
+      counts-within = omega arith;
+      none-or-each = inl refl;
       steps-are = refl;
       steps-within = record { places = refl; most = omega arith; each = λ i l. absurd (omega arith) };
       rows-count = refl;

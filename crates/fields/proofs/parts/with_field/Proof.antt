@@ -1,29 +1,29 @@
-use Prim.Native.Nat.{_≤_}
-use Rattle.fields.proofs.Following.{table-tag}
 -- `with_field` meets its contract: in each arm the tag is known, and one part changes.
+use mathlib.Core.Path.{_≡_}
+use mathlib.Core.Logic.{inl, inr}
 use native.Mathlib.Omega.{arith}
-use Rattle.fields.proofs.Filling.{kind-length, capacity-length, family-length, row-length, with-kind, with-capacity, with-sizes, with-row, with-step, family-same, family-within, table-same, table-within}
+use Rattle.fields.proofs.Filling.{kind-length, capacity-length, family-length, row-length, with-kind, with-capacity, with-sizes, with-counts, with-row, with-step, family-same, family-within, table-same, table-within}
 use borrow.Author.Needs.{needs}
 use Rattle.fields.proofs.parts.with_field.Statement.{statement}
 use Rattle.fields.proofs.parts.with_field.Tie as tie
 
 shared-slice-read-next : tie.Need-shared-slice-read-next
-shared-slice-read-next c = omega (arith, kind-length _ (rw (c .before .match .keys1) at (c .before .before .before .before .pre .length-right)))
+shared-slice-read-next c = omega (arith, kind-length _ _ (rw (c .before .match .keys1) at (c .before .before .before .before .pre .length-right)))
 
 word-at-requires : tie.Need-word-at-requires
-word-at-requires c κs = omega (arith, capacity-length _ (rw (c .match .keys2) at (c .before .before .before .pre .length-right)))
+word-at-requires c κs = omega (arith, capacity-length _ _ (rw (c .match .keys2) at (c .before .before .before .pre .length-right)))
 
 family-step-requires : tie.Need-family-step-requires
-family-step-requires c κs = family-length _ (rw (c .match .keys4) at (c .before .before .before .pre .length-right))
+family-step-requires c κs = family-length _ _ (rw (c .match .keys4) at (c .before .before .before .pre .length-right))
 
 with-step-requires : tie.Need-with-step-requires
-with-step-requires c κs = (c .before .before .before .before .pre .room (omega arith) (λ six. omega arith), c .before .before .before .before .pre .places)
+with-step-requires c κs = (c .before .before .before .before .pre .room (inl (c .before .match .keys4)), c .before .before .before .before .pre .places)
 
 add-next : tie.Need-add-next
-add-next c = omega (arith, c .before .before .before .before .pre .countable, row-length _ (rw (c .before .match .keys5) at (c .before .before .before .before .pre .length-right)))
+add-next c = omega (arith, c .before .before .before .before .pre .countable, row-length _ _ (rw (c .before .match .keys5) at (c .before .before .before .before .pre .length-right)))
 
 sub-next : tie.Need-sub-next
-sub-next c = omega (arith, row-length _ (rw (c .before .match .keys5) at (c .before .before .before .before .pre .length-right)))
+sub-next c = omega (arith, row-length _ _ (rw (c .before .match .keys5) at (c .before .before .before .before .pre .length-right)))
 
 add-next-2 : tie.Need-add-next-2
 add-next-2 c = omega (arith, c .before .before .before .before .before .pre .countable)
@@ -31,8 +31,12 @@ add-next-2 c = omega (arith, c .before .before .before .before .before .pre .cou
 table-step-requires : tie.Need-table-step-requires
 table-step-requires c κs = search needs
 
+-- the tag that is left
+table-tag : (c : tie.At-match-rest) → c .before .before .before .args .tag ≡ 5
+table-tag c = omega (arith, c .before .before .before .pre .known)
+
 with-step-requires-2 : tie.Need-with-step-requires-2
-with-step-requires-2 c κs = (c .before .before .before .before .pre .room (omega arith) (c .before .match .rest .1), c .before .before .before .before .pre .places)
+with-step-requires-2 c κs = (c .before .before .before .before .pre .room (inr (table-tag (c .before))), c .before .before .before .before .pre .places)
 
 returns : tie.Need-returns
 returns c = λ job fields h n. with-kind job fields _ h _ _ _ n (c .before .match .keys1)
@@ -46,20 +50,22 @@ returns-3 c = λ job fields h n. with-sizes job fields _ h _ _ _ n (c .match .ke
 returns-4 : tie.Need-returns-4
 returns-4 c =
     λ job fields h n.
+    let four = c .before .before .match .keys4 in
     rw (c .with-step .ensures, c .before .family-step .ensures)
-    (with-step job fields _ h _ _ _ n (omega arith) (λ six. omega arith) _ (family-same job fields _ h _ _ _ n (c .before .before .match .keys4)) (family-within job fields _ h _ _ _ n) (c .before .before .before .before .before .pre .room (omega arith) (λ six. omega arith)))
+    (with-step job fields _ h _ _ _ n (inl four) _ (family-same job fields _ h _ _ _ n four) (family-within job fields _ h _ _ _ n) (c .before .before .before .before .before .pre .room (inl four)))
 
 returns-5 : tie.Need-returns-5
 returns-5 c = λ job fields h n. with-row job fields _ h _ _ _ n (c .before .before .match .keys5)
 
 returns-6 : tie.Need-returns-6
-returns-6 c =
+returns-6 c = λ job fields h n. with-counts job fields _ h _ _ _ n (c .match .keys6)
+
+returns-7 : tie.Need-returns-7
+returns-7 c =
     λ job fields h n.
-    let step : 4 ≤ c .before .before .before .before .before .args .tag = omega arith in
-    let other = c .before .before .match .rest .1 in
-    let five = table-tag _ (n .step-tag step other) (c .before .before .match .rest .0 .1) in
+    let five = table-tag (c .before .before) in
     rw (c .with-step2 .ensures, c .before .table-step .ensures)
-    (with-step job fields _ h _ _ _ n step other _ (table-same job fields _ h _ _ _ n five) (table-within job fields _ h _ _ _ n five) (c .before .before .before .before .before .pre .room step other))
+    (with-step job fields _ h _ _ _ n (inr five) _ (table-same job fields _ h _ _ _ n five) (table-within job fields _ h _ _ _ n five) (c .before .before .before .before .before .pre .room (inr five)))
 
 pub with-field-spec : {M : Type 1} → statement M
 with-field-spec =
@@ -79,4 +85,5 @@ with-field-spec =
     returns-3
     returns-4
     returns-5
-    returns-6)
+    returns-6
+    returns-7)

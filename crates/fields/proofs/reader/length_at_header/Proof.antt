@@ -1,26 +1,15 @@
--- `length_at_header` meets its contract: the definition is the same sum.
-use native.Mathlib.Omega.{arith}
+-- `length_at_header` meets its contract: the length is the two-byte number behind the tag.
 use Rattle.fields.specs.Bytes.{fieldLength}
 use borrow.Author.Needs.{needs}
 use Rattle.fields.proofs.reader.length_at_header.Statement.{statement}
 use Rattle.fields.proofs.reader.length_at_header.Tie as tie
 
-byte-at-requires : tie.Need-byte-at-requires
-byte-at-requires c κs = search needs
-
-mul-result : tie.Need-mul-result
-mul-result c = search needs
-
-byte-at-requires-2 : tie.Need-byte-at-requires-2
-byte-at-requires-2 c κs = search needs
-
-add-result : tie.Need-add-result
-add-result c = search needs
+halfword-at-requires : tie.Need-halfword-at-requires
+halfword-at-requires c κs = search needs
 
 returns : tie.Need-returns
 unfolding fieldLength
-returns c = omega arith
+returns c = c .halfword-at .ensures
 
 pub length-at-header-spec : {M : Type 1} → statement M
-length-at-header-spec =
-    tie.close (tie.spec byte-at-requires mul-result byte-at-requires-2 add-result returns)
+length-at-header-spec = tie.close (tie.spec halfword-at-requires returns)

@@ -1,6 +1,7 @@
--- `finish_list` meets its contract: sizes mapped through the steps, and their sum.
+-- `finish_list` meets its contract: sizes mapped through the steps, and the sum of count times image.
 use mathlib.Core.Path.{_∙_}
-use Rattle.jobs.proofs.Finishing.{appliable, images-are, roundable, floor-answer, cut-answer}
+use native.Mathlib.Omega.{arith}
+use Rattle.jobs.proofs.Finishing.{appliable, images-are, counted, roundable, floor-answer, cut-answer}
 use borrow.Author.Needs.{needs}
 use Rattle.jobs.proofs.answer.finish_list.Statement.{statement}
 use Rattle.jobs.proofs.answer.finish_list.Tie as tie
@@ -10,12 +11,19 @@ map-list-requires c κs =
     let pre = c .before .before .before .before .pre in
     (pre .0 .steps-within, pre .0 .sizes-within, appliable _ (pre .1) (pre .2) _ _ (pre .0), pre .3)
 
+count-bytes-requires : tie.Need-count-bytes-requires
+count-bytes-requires c κs = search needs
+
 sum-of-requires : tie.Need-sum-of-requires
-sum-of-requires c κs = search needs
+sum-of-requires c κs =
+    let mapped = c .before .before .before .before .before .before in
+    let pre = mapped .before .before .before .before .before .pre in
+    let each = counted _ (pre .1) (pre .2) _ _ (pre .0) _ _ (mapped .map-list .ensures) in
+    (rw (c .before .count-bytes .ensures) each, omega (arith, pre .3, pre .0 .sizes-most))
 
 round-up-requires : tie.Need-round-up-requires
 round-up-requires c κs =
-    let mapped = c .before .before .before .before .before .before in
+    let mapped = c .before .before .before .before .before .before .before in
     let pre = mapped .before .before .before .before .before .pre in
     roundable _ (pre .1) (pre .2) _ _ (pre .0) _ _ (mapped .map-list .ensures) _ (c .sum-of .ensures .1)
 
@@ -28,10 +36,11 @@ same-length c = search needs
 returns : tie.Need-returns
 returns c =
     let summed = c .before .before in
-    let mapped = summed .before .before .before .before .before .before in
+    let counts = summed .before .before .count-bytes .ensures in
+    let mapped = summed .before .before .before .before .before .before .before in
     let pre = mapped .before .before .before .before .before .pre in
     let applied = mapped .map-list .ensures in (
-      c .accepted .ensures ∙ floor-answer _ (pre .1) (pre .2) _ _ (pre .0) _ _ applied (summed .before .before .if1 .taken) _ _ (summed .sum-of .ensures .0) (c .before .round-up .ensures),
+      c .accepted .ensures ∙ floor-answer _ (pre .1) (pre .2) _ _ (pre .0) _ _ applied (summed .before .before .before .if1 .taken) _ _ (rw counts at (summed .sum-of .ensures .0)) (c .before .round-up .ensures),
       images-are _ (pre .1) (pre .2) _ _ (pre .0) _ _ applied,
     )
 
@@ -55,6 +64,7 @@ finish-list-spec =
     tie.close
     (tie.spec
     map-list-requires
+    count-bytes-requires
     sum-of-requires
     round-up-requires
     accepted-requires

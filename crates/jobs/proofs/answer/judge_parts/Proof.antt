@@ -44,7 +44,7 @@ least-of-requires c κs = search needs
 judge-list-requires : tie.Need-judge-list-requires
 judge-list-requires c κs =
     let pre = c .before .before .before .before .before .before .before .before .before .before .pre in
-    (pre .0 .steps-within, pre .0 .sizes-within, pre .2, λ checked. absurd (false≢true checked))
+    (pre .0 .steps-within, pre .0 .sizes-within, pre .0 .counts-within, pre .2, λ checked. absurd (false≢true checked))
 
 same-length-3 : tie.Need-same-length-3
 same-length-3 c = search needs
@@ -58,7 +58,7 @@ returns-3 c =
     let s = judged .before .before .before .before .before .before .before .before .before .before .before in
     let h = s .pre .0 in
     let known : isKind (jobKind (fieldsIn (s .args .job .now))) ≡ true = ap isKind (sym (h .kind-is)) ∙ sym (judged .before .before .before .before .before .before .before .is-kind .ensures) ∙ not-false _ (judged .before .before .before .before .before .before .if1 .left) in
-    rw (list-kind _ (λ many. judged .before .before .before .before .if2 .left (h .kind-is ∙ many)) known, ← (h .kind-is), ← (h .capacity-is), ← (h .sizes-are), ← (h .steps-are), ← (judged .before .before .before .least-of .ensures)) (judged .judge-list .ensures)
+    rw (list-kind _ (λ many. judged .before .before .before .before .if2 .left (h .kind-is ∙ many)) known, ← (h .kind-is), ← (h .capacity-is), ← (h .sizes-are), ← (h .counts-given), ← (h .steps-are), ← (judged .before .before .before .least-of .ensures)) (judged .judge-list .ensures)
 
 pub judge-parts-spec : {M : Type 1} → statement M
 judge-parts-spec =

@@ -4,7 +4,7 @@ use Prim.Native.Nat.{_-_, _≤_}
 use native.Mathlib.Omega.{arith}
 use lib.ListN.{length, drop}
 use Rattle.chains.specs.Sizes.{sizesWithin}
-use Rattle.chains.proofs.SizeTests.{size-below, size-above, size-passes, sizes-passed}
+use Rattle.chains.proofs.SizeTests.{size-below, size-above, size-passes, each-passed}
 use Rattle.sweeps.proofs.sweep.sizes_fit.Statement.{statement}
 use Rattle.sweeps.proofs.sweep.sizes_fit.Tie as tie
 
@@ -48,7 +48,7 @@ loop-again c =
     (omega arith, turn .before .loop .inv .1 ∙ size-passes _ _ _ _ _ refl (turn .loop-test .taken) (c .before .if1 .left) (c .if2 .left))
 
 returns-3 : tie.Need-returns-3 Inv-loop μ-loop
-returns-3 c = sym (c .before .loop .inv .1 ∙ sizes-passed _ _ _ _ (c .loop-test .left))
+returns-3 c = sym (c .before .loop .inv .1 ∙ each-passed _ _ _ (c .loop-test .left))
 
 pub sizes-fit-spec : {M : Type 1} → statement M
 sizes-fit-spec =

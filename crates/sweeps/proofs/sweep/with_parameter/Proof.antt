@@ -1,8 +1,6 @@
--- `with_parameter` meets its contract: p takes the place of the best before it where its floor is larger, or where there is none.
-use mathlib.Core.Path.{_∙_}
-use native.Mathlib.Omega.{arith}
-use Rattle.sweeps.proofs.Sweeps.{scaled, turn-refused, turn-kept, turn-replaced}
+-- `with_parameter` meets its contract: where p passes, its sum gives its floor, and the better of both stays.
 use borrow.Author.Needs.{needs}
+use Rattle.sweeps.proofs.Sweeps.{turn-fails, turn-refused, turn-passes, roundable, floor-is, turn-better}
 use Rattle.sweeps.proofs.sweep.with_parameter.Statement.{statement}
 use Rattle.sweeps.proofs.sweep.with_parameter.Tie as tie
 
@@ -10,25 +8,32 @@ judge-family-requires : tie.Need-judge-family-requires
 judge-family-requires c κs = search needs
 
 returns : tie.Need-returns
-returns c = λ ps is. turn-refused _ _ _ _ _ (c .before .before .judge-family .ensures) _ ps is (c .if1 .taken)
+returns c =
+    let judged = c .before .before in
+    let start = judged .before .before .before in
+    (turn-refused _ _ _ _ _ _ (judged .judge-family .ensures) _ (c .if1 .taken), λ e. absurd (turn-fails _ _ (start .args .sizes .now) (start .args .counts .now) _ _ (judged .judge-family .ensures) (c .if1 .taken) e))
 
-floor-of-requires : tie.Need-floor-of-requires
-floor-of-requires c κs = (c .before .before .before .before .pre, scaled _ _ (c .before .before .before .before .args .sizes .now) _ _ (c .before .before .judge-family .ensures) (c .if1 .left))
+sum-at-requires : tie.Need-sum-at-requires
+sum-at-requires c κs =
+    let judged = c .before .before in
+    let start = judged .before .before .before in
+    (start .pre .0, turn-passes _ _ (start .args .sizes .now) (start .args .counts .now) _ _ (judged .judge-family .ensures) (c .if1 .left), start .pre .1, start .pre .2)
 
-found-requires : tie.Need-found-requires
-found-requires c κs = search needs
+round-up-requires : tie.Need-round-up-requires
+round-up-requires c κs =
+    let judged = c .before .before .before in
+    roundable _ _ _ _ _ _ (judged .judge-family .ensures) (c .before .if1 .left) (judged .before .before .before .pre .0) _ (c .sum-at .ensures)
+
+better-requires : tie.Need-better-requires
+better-requires c κs = search needs
 
 returns-2 : tie.Need-returns-2
-returns-2 c = λ ps is. c .found .ensures ∙ turn-replaced _ _ _ _ _ (c .before .before .before .before .before .before .judge-family .ensures) _ ps is (c .before .before .before .before .if1 .left) _ (c .before .before .before .floor-of .ensures) (λ none. absurd (c .before .if2 .taken none))
-
-returns-3 : tie.Need-returns-3
-returns-3 c = λ ps is. turn-kept _ _ _ _ _ (c .before .before .before .before .before .before .before .judge-family .ensures) _ ps is (c .before .before .before .before .before .if1 .left) _ (c .before .before .before .before .floor-of .ensures) (c .before .before .if2 .left) (omega (arith, c .if3 .taken))
-
-found-requires-2 : tie.Need-found-requires-2
-found-requires-2 c κs = search needs
-
-returns-4 : tie.Need-returns-4
-returns-4 c = λ ps is. c .found2 .ensures ∙ turn-replaced _ _ _ _ _ (c .before .before .before .before .before .before .before .before .judge-family .ensures) _ ps is (c .before .before .before .before .before .before .if1 .left) _ (c .before .before .before .before .before .floor-of .ensures) (λ _. omega (arith, c .before .if3 .left))
+returns-2 c =
+    let summed = c .before .before .before in
+    let judged = summed .before .before .before in
+    let none = summed .before .if1 .left in
+    let floored = floor-is _ _ _ _ _ _ (judged .judge-family .ensures) none (judged .before .before .before .pre .0) _ (summed .sum-at .ensures) _ (c .before .before .round-up .ensures) in
+    (turn-better _ _ _ _ _ _ (judged .judge-family .ensures) none _ _ _ floored (c .better .ensures), λ _. summed .sum-at .ensures)
 
 pub with-parameter-spec : {M : Type 1} → statement M
 with-parameter-spec =
@@ -36,9 +41,7 @@ with-parameter-spec =
     (tie.spec
     judge-family-requires
     returns
-    floor-of-requires
-    found-requires
-    returns-2
-    returns-3
-    found-requires-2
-    returns-4)
+    sum-at-requires
+    round-up-requires
+    better-requires
+    returns-2)
