@@ -27,7 +27,8 @@ use Rattle.fields.specs.Grammar.{mostSizes}
 use Rattle.chains.specs.Chain.{stepImage, stepScale, stepRefusal, chainImage, chainScale, ChainAccepted, chainFloor}
 use Rattle.jobs.specs.Packing.{copies, Fits, binsUsed}
 use Rattle.chains.specs.Sizes.{sizesWithin, countsPositive}
-use Rattle.sweeps.specs.Sweep.{widest, countedRefusal, rangeRefusal, sweepRefusal, Sweepable, SweepSum, SumAt, SumBefore, Better, WithParameter, sweepFloor, passes, passing, largest, firstWith, refusedSweep, bestOf, sweepAnswer}
+use Rattle.sweeps.specs.Sweep.{widest, countedRefusal, rangeRefusal, sweepRefusal, sweepFloor, passes, passing, largest, firstWith, refusedSweep, bestOf, sweepAnswer}
+use Rattle.sweeps.specs.Progress.{Sweepable, SweepSum, SumAt, SumBefore, Better, WithParameter}
 use Rattle.sweeps.specs.declared.SweepAnswer.{SweepAnswer}
 use Rattle.jobs.proofs.Packings.{chain-is-safe}
 use Rattle.chains.proofs.SizeTests.{sizes-most}

@@ -1,2 +1,3 @@
 pub mod Sweep
+pub mod Progress
 pub mod Promise

@@ -13,13 +13,8 @@ ghost use Rattle.sweeps.specs.Sweep.{
   passing,
   bestOf,
   refusedSweep,
-  Sweepable,
-  SweepSum,
-  SumAt,
-  SumBefore,
-  Better,
-  WithParameter,
 };
+ghost use Rattle.sweeps.specs.Progress.{Sweepable, SweepSum, SumAt, SumBefore, Better, WithParameter};
 
 // The most that high is above low.
 const WIDEST: u64 = 4_095;

@@ -3,7 +3,8 @@ use mathlib.Core.Path.{_≡_, refl, _∙_}
 use mathlib.Core.List.{[]}
 use Prim.Native.Nat.{suc, _+_, _-_, _≤_}
 use native.Mathlib.Omega.{arith}
-use Rattle.sweeps.specs.Sweep.{sweepFloor, passing, bestOf, SumAt}
+use Rattle.sweeps.specs.Sweep.{sweepFloor, passing, bestOf}
+use Rattle.sweeps.specs.Progress.{SumAt}
 use Rattle.sweeps.proofs.Sweeps.{passing-next, sum-before}
 use Rattle.sweeps.proofs.sweep.sweep_range.Statement.{statement}
 use Rattle.sweeps.proofs.sweep.sweep_range.Tie as tie
