@@ -20,7 +20,7 @@ extern "C" {
 #endif
 
 /* The version of this header and of the library: CHANGELOG.md says what came with it. */
-#define WINDOWFLOOR_VERSION "3.0.0"
+#define WINDOWFLOOR_VERSION "3.1.0"
 
 /* Limits: unsigned constants. */
 #define WINDOWFLOOR_LIMIT 1000000000u     /* the greatest capacity, parameter, scale and table entry */

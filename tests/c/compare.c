@@ -50,7 +50,7 @@ enum quotient { OF_FAMILY_4, OF_FAMILY_6, OF_FAMILY_7, OF_JOB, OF_SWEEP, QUOTIEN
 enum remainder { NONE, ONE, ONE_SHORT, ANOTHER, REMAINDERS };
 
 static const char *const quotient_names[QUOTIENTS] = {
-    "  family 4", "  family 6", "  family 7", "  floor", "  sweep",
+    "  family 4 ", "  family 6 ", "  family 7 ", "  floor    ", "  sweep    ",
 };
 static const char *const remainder_names[REMAINDERS] = {"0", "1", "divisor less 1", "another"};
 
@@ -61,6 +61,14 @@ static const char *const sort_names[SORTS] = {
     "no size", "all 1", "over 255", "65,535", "sum over 32 bits", "greatest sum",
 };
 
+/* Thresholds whose 2 * p is the capacity + 1, by where they are accepted, and images that are refused with a
+ * p one over. */
+enum half { IN_IMAGE, IN_FIRST_STEP, IN_LATER_STEP, IN_SWEEP, ONE_OVER, HALVES };
+
+static const char *const half_names[HALVES] = {
+    "image", "first step", "later step", "sweep", "one over",
+};
+
 /* What was seen: how often each number came from each operation, and from how many steps a job, or a job
  * of rows, got through, or at which it was refused. */
 static unsigned long seen[TALLIES][NUMBERS];
@@ -68,6 +76,7 @@ static unsigned long accepted_steps[2][STEPS], refused_step[2][STEPS];
 static unsigned long accepted_shapes[SHAPES];
 static unsigned long rounded[QUOTIENTS][REMAINDERS];
 static unsigned long counted[2][SORTS]; /* jobs, sweeps */
+static unsigned long halves[HALVES];
 
 /* Inputs lie right before memory that cannot be read, so that a read past their end is a crash. Two edges
  * are for the two inputs of a sweep. */
@@ -196,9 +205,15 @@ static void count_rounded(enum quotient quotient, uint64_t a, uint64_t b)
     rounded[quotient][left == 0 ? NONE : left == 1 ? ONE : left == b - 1 ? ONE_SHORT : ANOTHER]++;
 }
 
+static int is_threshold(uint64_t capacity, uint8_t family, uint64_t p, uint64_t more)
+{
+    return family == 1 && 2 * p == capacity + more;
+}
+
 /* The quotient that an accepted image rounds up, if there is one. */
 static void count_image(const struct image_input *in)
 {
+    halves[IN_IMAGE] += is_threshold(in->capacity, in->family, in->p, 1);
     uint64_t lesser = 2 * in->x < in->capacity ? in->x : in->capacity - in->x;
     if (in->family == 4 && lesser > 0)
         count_rounded(OF_FAMILY_4, in->p * lesser, in->capacity);
@@ -221,6 +236,8 @@ static void compare_image(void)
     judge(IMAGE, &library, &reference, sizeof library, 1, &in, sizeof in);
     if (library.number == 0)
         count_image(&in);
+    halves[ONE_OVER] += library.number == WINDOWFLOOR_BAD_PARAMETER && in.q == 0
+        && is_threshold(in.capacity, in.family, in.p, 2);
 }
 
 static void compare_table(void)
@@ -395,14 +412,6 @@ static void count_fields(const struct job_input *in, const struct windowfloor_jo
     }
 }
 
-static void count_accepted(const struct job_input *in, const struct windowfloor_job_answer *answer,
-                           const uint32_t *scales)
-{
-    count_shape(in, scales);
-    if (in->bytes[3] == WINDOWFLOOR_KIND_FLOOR)
-        count_rounded(OF_JOB, answer->sum, answer->scale);
-}
-
 /* Where a step starts, counted from 1, in a job that has so many. */
 static size_t step_at(const struct job_input *in, uint64_t step)
 {
@@ -412,6 +421,38 @@ static size_t step_at(const struct job_input *in, uint64_t step)
         if (step == 0)
             return at;
     }
+}
+
+/* The scale of the accepted step that starts there. */
+static uint64_t scale_of(const struct job_input *in, size_t at, uint64_t capacity)
+{
+    size_t value = at + 3;
+    if (in->bytes[at] == WINDOWFLOOR_TAG_TABLE)
+        return read_number(in, value + value_bytes(in, at) - 4);
+    return reference_image(capacity, in->bytes[value], read_number(in, value + 1),
+                           read_number(in, value + 5), 0).scale;
+}
+
+/* In a job of rows, of its first row: the capacity, or the right side, stands behind 7 bytes. */
+static void count_halves(const struct job_input *in)
+{
+    uint64_t capacity = read_number(in, 7);
+    size_t steps = steps_of(in);
+    for (size_t step = 1; step <= steps; step++) {
+        size_t at = step_at(in, step);
+        halves[step == 1 ? IN_FIRST_STEP : IN_LATER_STEP] += in->bytes[at] == WINDOWFLOOR_TAG_FAMILY
+            && is_threshold(capacity, in->bytes[at + 3], read_number(in, at + 4), 1);
+        capacity = scale_of(in, at, capacity);
+    }
+}
+
+static void count_accepted(const struct job_input *in, const struct windowfloor_job_answer *answer,
+                           const uint32_t *scales)
+{
+    count_shape(in, scales);
+    count_halves(in);
+    if (in->bytes[3] == WINDOWFLOOR_KIND_FLOOR)
+        count_rounded(OF_JOB, answer->sum, answer->scale);
 }
 
 /* What the table check says of the table that this step is. */
@@ -472,6 +513,7 @@ static void count_sweep(const struct sweep_input *in, uint64_t p)
         sum += in->counts[i] * reference_image(in->capacity, in->family, p, 0, in->sizes[i]).image;
     count_rounded(OF_SWEEP, sum, reference_image(in->capacity, in->family, p, 0, 0).scale);
     count_sorts(counted[1], in->counts, in->n, sum);
+    halves[IN_SWEEP] += is_threshold(in->capacity, in->family, p, 1);
 }
 
 /* What the sweep's number would be if there were a count of 1 for each size. */
@@ -686,12 +728,14 @@ static void report_steps(const char *what, const unsigned long *counts, int *lac
     printf("\n");
 }
 
-static void report_shapes(int *lacking)
+/* Each of these has to have been seen. */
+static void report_named(const char *what, const char *const *names_of, const unsigned long *counts,
+                         int kinds, int *lacking)
 {
-    printf("accepted jobs by shape");
-    for (int shape = 0; shape < SHAPES; shape++) {
-        printf("  %s:%lu", shape_names[shape], accepted_shapes[shape]);
-        if (accepted_shapes[shape] == 0)
+    printf("%s", what);
+    for (int kind = 0; kind < kinds; kind++) {
+        printf("  %s:%lu", names_of[kind], counts[kind]);
+        if (counts[kind] == 0)
             *lacking = printf(" MISSING");
     }
     printf("\n");
@@ -700,26 +744,8 @@ static void report_shapes(int *lacking)
 static void report_rounded(int *lacking)
 {
     printf("quotients rounded up by their remainder\n");
-    for (int quotient = 0; quotient < QUOTIENTS; quotient++) {
-        printf("%-11s", quotient_names[quotient]);
-        for (int remainder = 0; remainder < REMAINDERS; remainder++) {
-            printf("  %s:%lu", remainder_names[remainder], rounded[quotient][remainder]);
-            if (rounded[quotient][remainder] == 0)
-                *lacking = printf(" MISSING");
-        }
-        printf("\n");
-    }
-}
-
-static void report_sorts(const char *what, const unsigned long *sorts, int *lacking)
-{
-    printf("%s", what);
-    for (int sort = 0; sort < SORTS; sort++) {
-        printf("  %s:%lu", sort_names[sort], sorts[sort]);
-        if (sorts[sort] == 0)
-            *lacking = printf(" MISSING");
-    }
-    printf("\n");
+    for (int quotient = 0; quotient < QUOTIENTS; quotient++)
+        report_named(quotient_names[quotient], remainder_names, rounded[quotient], REMAINDERS, lacking);
 }
 
 static void report_tallies(const char *what, enum tally first, enum tally last, int *lacking)
@@ -743,10 +769,11 @@ static unsigned long report_all(int *lacking)
                    lacking);
     report_tallies("sweeps refused for their number of counts by the number with ones", FEWER_COUNTS,
                    MORE_COUNTS, lacking);
-    report_sorts("accepted jobs by counts  ", counted[0], lacking);
-    report_sorts("accepted sweeps by counts", counted[1], lacking);
+    report_named("accepted jobs by counts  ", sort_names, counted[0], SORTS, lacking);
+    report_named("accepted sweeps by counts", sort_names, counted[1], SORTS, lacking);
+    report_named("thresholds at half of an odd capacity", half_names, halves, HALVES, lacking);
     report_rounded(lacking);
-    report_shapes(lacking);
+    report_named("accepted jobs by shape", shape_names, accepted_shapes, SHAPES, lacking);
     report_steps("accepted jobs by steps  ", accepted_steps[0], lacking);
     report_steps("  of rows               ", accepted_steps[1], lacking);
     report_steps("refused jobs by step    ", refused_step[0], lacking);

@@ -83,7 +83,8 @@ struct family_step {
 static uint64_t parameters(uint64_t capacity, uint8_t family)
 {
     switch (family) {
-    case 1: case 3: return capacity / 2 + 1;
+    case 1: return (capacity + 1) / 2 + 2;
+    case 3: return capacity / 2 + 1;
     case 2: return LIMIT / capacity + 2;
     default: return capacity + 1;
     }

@@ -46,6 +46,7 @@ repeat() {
 run_lists() {
     run 10 7 7 5 5 5
     run 10 6 6 6
+    run 5 3 3 3
     run 100 51 51 34 34 34 26 26 26 26
     run_file "$here" planner.txt
     run 1 1 1

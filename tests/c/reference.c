@@ -126,7 +126,7 @@ static int legal(struct step s)
     if (s.family <= 5 && s.q != 0)
         return 0;
     switch (s.family) {
-    case 1: return 2 * s.p <= s.capacity;
+    case 1: return 2 * s.p <= s.capacity + 1;
     case 2: return s.p >= 1;
     case 3: return s.p >= 1 && 2 * s.p <= s.capacity;
     case 4: return s.p >= 2 && s.p <= s.capacity;

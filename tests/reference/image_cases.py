@@ -10,7 +10,7 @@ sys.dont_write_bytecode = True
 import windowfloor as wf
 from case_files import lines, store_or_check
 
-TOTAL = 734
+TOTAL = 838
 FAMILIES = range(1, 8)
 LIMIT = 1_000_000_000
 MAX = 2**64 - 1
@@ -39,6 +39,17 @@ def reckoned():
     for capacity, family, p, q, sizes in rows:
         for x in sizes:
             yield capacity, family, p, q, x
+
+
+def half_windows():
+    """Request 5: family 1 at its greatest p and one over, of odd and even capacities."""
+    for capacity in (1, 2, 3, 4, 5, 6, 7, 96, 97, 2**29 - 1, LIMIT - 1, LIMIT):
+        for p in ((capacity + 1) // 2, (capacity + 1) // 2 + 1):
+            for x in sorted({0, capacity - p, capacity - p + 1, p, p + 1, capacity}):
+                if 0 <= x <= capacity:
+                    yield capacity, 1, p, 0, x
+    yield 5, 1, 3, 1, 3
+    yield 5, 1, 3, 0, 6
 
 
 def least_q(capacity, family, p):
@@ -153,7 +164,7 @@ def random_legal(rng, family):
 def all_cases():
     """Each case once, in the order of its first making."""
     cases = {}
-    for part in (reckoned, small, limits, orders, scales, roundings):
+    for part in (reckoned, small, limits, orders, scales, roundings, half_windows):
         cases.update(dict.fromkeys(part()))
     rng = random.Random(20_000)
     while len(cases) < TOTAL:

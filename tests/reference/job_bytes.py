@@ -98,12 +98,13 @@ BAD_STEPS = (
     table(0, 1, 1), table(1, MAX, 0), table(0, MAX, 0), table(*range(11), 10))
 
 
-def bad_tables_about_4():
-    """A capacity and steps that leave 4 to a bad table of 3, 4 or 5: the table alone, and behind a step that makes 4 of
-    5; then tables of 4 and of 5, in both orders."""
-    for bad in bad_tables(3) + bad_tables(4) + bad_tables(5):
-        yield 4, (bad,)
-        yield 5, (family(4, 3), bad)
+def tables_about_4():
+    """A capacity and steps that leave 4 to a table of 3, 4 or 5, bad or in order: the table alone, and behind a step
+    that makes 4 of 5; then bad tables of 4 and of 5, in both orders."""
+    for capacity in (3, 4, 5):
+        for entries in bad_tables(capacity) + (table(*range(capacity + 1)),):
+            yield 4, (entries,)
+            yield 5, (family(4, 3), entries)
     for right, other in zip(bad_tables(4), bad_tables(5)):
         yield 4, (right, other)
         yield 4, (other, right)

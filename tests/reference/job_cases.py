@@ -22,8 +22,8 @@ import windowfloor as wf
 from case_files import in_blocks, lines, store_or_check
 from count_cases import count_cases
 from job_bytes import (
-    BAD_STEPS, bad_tables_about_4, changed_value, cut_short, damaged, family, field, head, job, last_only, leaving,
-    make, other_lengths, other_tags, random_steps, table)
+    BAD_STEPS, changed_value, counted_job, cut_short, damaged, family, field, head, job, last_only, leaving, make,
+    other_lengths, other_tags, random_steps, rows_job, table, tables_about_4)
 from row_cases import row_cases
 from table_cases import FAMILY_STEPS, LIMIT, MAX, MOST_PLACES, checksum
 
@@ -103,8 +103,8 @@ def bad_steps():
 
 
 def other_capacities():
-    """Bad tables of the present capacity and of others; there 18 goes before 8 to 11."""
-    for kind, (capacity, steps) in itertools.product((1, 2), bad_tables_about_4()):
+    """Tables of the present capacity and of others, bad ones and some in order; 18 goes before 8 to 11."""
+    for kind, (capacity, steps) in itertools.product((1, 2), tables_about_4()):
         yield make(job(kind, capacity, (1, 3), *steps))
 
 
@@ -168,6 +168,37 @@ def roundings():
         yield make(job(1, SAME, (SAME,) * (SIZES - 1) + (last,)))
 
 
+def half_steps(capacity):
+    """Family 1 at its greatest p, one below and one over."""
+    last = (capacity + 1) // 2
+    return [family(1, p) for p in (last - 1, last, last + 1)]
+
+
+def half_windows():
+    """Request 5: half of odd and even windows, first and behind steps with another scale, in lists and rows."""
+    for capacity in (1, 2, 3, 4, 5, 6, 7, 97, LIMIT - 1, LIMIT):
+        last = (capacity + 1) // 2
+        sizes = [size for size in (last - 1, last, last + 1, capacity) if 1 <= size <= capacity]
+        for kind, step in itertools.product((1, 2), half_steps(capacity)):
+            yield make(job(kind, capacity, sizes, step))
+        for step in half_steps(capacity):
+            yield make(counted_job(capacity, [(size, 300 + size % 7) for size in sizes], step))
+            yield make(rows_job([(capacity, *sizes), (capacity + 1, 1), (capacity - 1, 0)], step))
+    for scale in (1, 2, 5, 6, 9, LIMIT - 1, LIMIT):  # the table leaves its last entry to the step behind it
+        small = table(*[0] * 6, *[scale] * 5)
+        for step in half_steps(scale) + half_steps(10):
+            yield make(job(1, 10, (3, 6, 8, 10), small, step))
+    for before, present in ((family(5, 3), 3), (family(2, 3), 33), (family(3, 3), 6), (family(7, 3, 2), 9)):
+        for step in half_steps(present) + half_steps(11):
+            yield make(job(1, 11, range(1, 12), before, step))
+            yield make(job(2, 11, range(12), step, before, step))
+    for places in itertools.product((family(1, 3), table(0, 0, 0, 5, 5, 5)), repeat=3):
+        yield make(job(1, 5, (1, 2, 3, 4, 5), *places))
+        yield make(rows_job([(5, 2, 3), (5, 0), (5, 4, 1)], *places, family(1, 4)))
+    for count in (8, 9):
+        yield make(job(1, 5, (1, 2, 3, 4, 5), *[family(1, 3)] * count))
+
+
 def buffers():
     """Each buffer too short, exact and longer."""
     full = table(0, 1, *[0] * (ENTRIES - 3), ENTRIES - 2)  # refused with the longest list
@@ -225,7 +256,7 @@ def all_cases():
     cases = {}
     for part in (reckoned, form, truncated, tag_orders, lengths, chains, bad_steps, other_capacities,
                  capacities, kinds, counts, roundings, buffers, longest, random_cases, row_cases,
-                 count_cases):
+                 count_cases, half_windows):
         cases.update(dict.fromkeys(part()))
     return list(cases)
 

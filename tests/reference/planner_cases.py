@@ -18,8 +18,9 @@ WORDS = {1: "the capacity is 0 or over the limit", 2: "the family is not 1 to 7,
          3: "p or q is not legal for the family", 4: "the scale would pass the limit",
          17: "a size is 0 in a list, or over the capacity",
          21: "a job of rows has no row, too many rows, or too many coefficients", 22: "a count is 0"}
-LISTS = ("10 7 7 5 5 5", "10 6 6 6", "100 51 51 34 34 34 26 26 26 26", "planner.txt", "1 1 1", "8192 4097 2731 2731",
-         "12287 8192 8192 4096 4096 4096", "12290 8194 8194 4097 4097 4097", "20000 13334 13334 6667 6667 6667",
+LISTS = ("10 7 7 5 5 5", "10 6 6 6", "5 3 3 3", "100 51 51 34 34 34 26 26 26 26", "planner.txt", "1 1 1",
+         "8192 4097 2731 2731", "12287 8192 8192 4096 4096 4096", "12290 8194 8194 4097 4097 4097",
+         "20000 13334 13334 6667 6667 6667",
          "65536 40000 30000", "65537 40000 30000", "196607 131072 131072 65536 65536 65536",
          "1000000000 600000000 600000000 400000001")
 REFUSED = ("10 11", "10 0", "0 1", "1000000001 1", "99999999999 1")
@@ -135,7 +136,8 @@ def run_cut(capacity, sizes, *steps):
 def greatest_p(capacity, family):
     """The greatest p that is legal with a scale within the limit; 0 if there is none from 1 on."""
     half_scale = wf.LIMIT // 2
-    greatest = {1: capacity // 2, 2: wf.LIMIT // capacity, 3: capacity // 2, 4: min(capacity, half_scale + 1), 5: capacity}
+    greatest = {1: (capacity + 1) // 2, 2: wf.LIMIT // capacity, 3: capacity // 2, 4: min(capacity, half_scale + 1),
+                5: capacity}
     return 0 if (family, capacity) == (4, 1) else greatest[family]
 
 

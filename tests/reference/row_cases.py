@@ -6,8 +6,8 @@ import random
 
 import windowfloor as wf
 from job_bytes import (
-    BAD_STEPS, bad_tables_about_4, changed_value, cut_short, damaged, family, field, head, job, last_only, lent,
-    make, other_lengths, other_tags, random_steps, row, rows_fields, rows_job, table, words)
+    BAD_STEPS, changed_value, cut_short, damaged, family, field, head, job, last_only, lent, make, other_lengths,
+    other_tags, random_steps, row, rows_fields, rows_job, table, tables_about_4, words)
 from table_cases import FAMILY_STEPS, LIMIT, MAX, MOST_PLACES
 
 RANDOM = 100  # of each kind
@@ -150,8 +150,8 @@ def tables_in_rows():
 
 
 def other_capacities():
-    """Bad tables of the capacity that row 1 leaves them, of row 2's and of none: 18 goes before 8 to 11."""
-    for capacity, steps in bad_tables_about_4():
+    """Tables of the capacity that row 1 leaves them, of row 2's and of none: 18 goes before 8 to 11."""
+    for capacity, steps in tables_about_4():
         yield rows_job([(capacity, 3), (9 - capacity, 3)], *steps)
 
 

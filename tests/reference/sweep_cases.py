@@ -179,6 +179,20 @@ def roundings():
         yield make(LIMIT, 1, 0, 0, (SIZES - 1, LIMIT), (1, last))
 
 
+def half_windows():
+    """Request 5: family 1 about its greatest p, of odd and even capacities, each range with and without it."""
+    for capacity in (1, 2, 3, 4, 5, 6, 7, 96, 97, 4095, LIMIT - 1, LIMIT):
+        last = (capacity + 1) // 2
+        for low, high in ((last, last), (last, last + 9), (last + 1, last + 9), (max(0, last - 9), last),
+                          (max(0, last - 9), last - 1), (max(0, last - 9), last + 1)):
+            yield of(capacity, 1, low, high, last, last, last)
+            yield counted(capacity, 1, low, high, (last, 3), (capacity - last or 1, 300), (capacity, 2))
+            yield of(capacity, 3, low, high, last, capacity)
+        yield of(capacity, 1, last, last)
+    yield of(5, 1, 3, 3, 2, 3)
+    yield make(4095, 1, 0, WIDEST, (SIZES, 2048), counts=[(SIZES, 1, 3)])
+
+
 def random_range(rng):
     """Capacity, family, low and high."""
     capacity = rng.randint(1, rng.choice((12, 60, 1000, LIMIT)))
@@ -330,7 +344,7 @@ def all_cases():
     cases = {}
     for part in (reckoned, form, faults, ranges, last_alone, limits, counts, ties, roundings, random_cases,
                  faults_of_counts, reckoned_counts, form_of_counts, numbers_of_both, zeros, limits_of_counts,
-                 largest_sums, neighbours, decided_by_counts, roundings_of_counts, random_counts):
+                 largest_sums, neighbours, decided_by_counts, roundings_of_counts, random_counts, half_windows):
         cases.update(dict.fromkeys(part()))
     return list(cases)
 

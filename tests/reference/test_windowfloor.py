@@ -1,7 +1,7 @@
 """Tests of the reference: the examples of the scope document ("01"), values
 reckoned by hand from it and from the change requests for many rows, for tables
-of another capacity and for counts ("02", tickets 1, 2 and 4), and brute force
-over small capacities."""
+of another capacity, for counts and for half of an odd window ("02", tickets 1,
+2, 4 and 5), and brute force over small capacities."""
 
 import random
 import unittest
@@ -108,6 +108,13 @@ class Reckoning(unittest.TestCase):
         self.assertEqual(wf.image(10, 1, 5, 0, 5)[0], 0)
         self.assertEqual(wf.image(10, 1, 6, 0, 5), (3, 0, 0))
 
+    def test_half_of_an_odd_window(self):
+        """02, ticket 5, and the smallest capacity."""
+        self.images(5, 1, 3, 0, 5, {0: 0, 2: 0, 3: 5, 5: 5})
+        self.images(1, 1, 1, 0, 1, {0: 0, 1: 1})
+        self.assertEqual(wf.image(6, 1, 4, 0, 3), (3, 0, 0))
+        self.assertEqual(wf.image(5, 1, 4, 0, 3), (3, 0, 0))
+
     def test_family_2(self):
         self.images(10, 2, 2, 0, 20, {3: 0, 4: 10, 7: 20})
         self.images(9, 2, 2, 0, 18, {3: 6, 4: 9})
@@ -197,7 +204,8 @@ class Families(unittest.TestCase):
     def test_ranges_of_p(self):
         """The least and the greatest legal p, q being legal."""
         for capacity, family, q, least, greatest in [
-                (10, 1, 0, 0, 5), (11, 1, 0, 0, 5), (1, 2, 0, 1, LIMIT),
+                (1, 1, 0, 0, 1), (2, 1, 0, 0, 1), (10, 1, 0, 0, 5), (11, 1, 0, 0, 6), (LIMIT - 1, 1, 0, 0, LIMIT // 2),
+                (LIMIT, 1, 0, 0, LIMIT // 2), (1, 2, 0, 1, LIMIT),
                 (10, 3, 0, 1, 5), (11, 3, 0, 1, 5), (10, 4, 0, 2, 10), (10, 5, 0, 1, 10),
                 (11, 6, 4, 2, 9), (11, 7, 4, 2, 9)]:
             with self.subTest(capacity=capacity, family=family):
@@ -465,7 +473,7 @@ class Rows(Refusals):
                 (rows_job(rows + [(0,)]), refused(1, row=before + 1)),
                 (rows_job(rows + [(LIMIT + 1, 3)], step), refused(1, row=before + 1)),
                 (rows_job(rows + [(10, 3, 11)], step), refused(17, row=before + 1)),
-                (rows_job(rows + [(5, 0)], step), refused(3, 1, row=before + 1)),
+                (rows_job(rows + [(4, 0)], step), refused(3, 1, row=before + 1)),
                 (rows_job(rows + [(11,)], step, family_step(2, LIMIT // 10)), refused(4, 2, row=before + 1)),
                 (rows_job(rows + [(9, 3)], step, step, IDENTITY), refused(18, 3, row=before + 1))])
 
@@ -772,6 +780,47 @@ class Counts(Refusals):
             self.assertEqual(with_ones, without)
 
 
+class HalfWindows(Refusals):
+    """02, ticket 5: at each step the present capacity counts."""
+
+    def accepted(self, data, images, floor, total, scale):
+        lent_images, working, lst, scales = buffers()
+        numbers = 0, len(images), floor, total, scale, 0, 0, 0
+        self.assertEqual(wf.job(data, lent_images, working, lst, scales), numbers)
+        self.assertEqual(lent_images[:len(images) + 1], images + [MARK])
+
+    def test_first_step(self):
+        sizes = [2, 3, 3, 5]
+        self.accepted(make_job(1, 5, sizes), sizes, 3, 13, 5)
+        self.accepted(make_job(1, 5, sizes, family_step(1, 3)), [0, 5, 5, 5], 3, 15, 5)
+        self.accepted(make_job(1, 5, [3, 3, 3], family_step(1, 3)), [5, 5, 5], 3, 15, 5)
+        self.accepted(make_job(2, 5, [0, 2, 3], family_step(1, 3)), [0, 0, 5], 0, 0, 5)
+        self.accepted(make_job(1, 1, [1, 1], family_step(1, 1)), [1, 1], 2, 2, 1)
+        self.accepted(counted_job(5, [(3, 300), (2, 65_535)], family_step(1, 3)), [5, 0], 300, 1500, 5)
+
+    def test_later_steps(self):
+        """Family 5 with p = 3 makes 3 of 11, and x div 3 of each x here; the table makes 5 of 6."""
+        thirds, table = family_step(5, 3), table_step(0, 0, 0, 2, 3, 4, 5)
+        self.accepted(make_job(1, 11, [3, 6, 9, 11], thirds), [1, 2, 3, 3], 3, 9, 3)
+        self.accepted(make_job(1, 11, [3, 6, 9, 11], thirds, family_step(1, 2)), [0, 3, 3, 3], 3, 9, 3)
+        self.accepted(make_job(1, 6, [3, 4, 5, 6], table, family_step(1, 3)), [0, 5, 5, 5], 3, 15, 5)
+        self.accepted(make_job(1, 5, [2, 3], *[family_step(1, 3)] * 8), [0, 5], 1, 5, 5)
+        self.refusals([
+            (make_job(1, 11, [3], family_step(1, 6), thirds, family_step(1, 3)), refused(3, 3)),
+            (make_job(1, 5, [3], family_step(2, 2), family_step(1, 6)), refused(3, 2)),
+            (make_job(1, 6, [3], family_step(1, 4)), refused(3, 1)),
+            (make_job(1, 6, [3], table, family_step(1, 4)), refused(3, 2)),
+            (make_job(1, 5, [3], family_step(1, 3, 1)), refused(3, 1))])
+
+    def test_rows(self):
+        lent_images, working, lst, scales = buffers()
+        rows, step = [(5, 3, 2), (6, 3, 4), (7, 4, 5)], family_step(1, 3)
+        self.assertEqual(wf.job(rows_job(rows, step), lent_images, working, lst, scales), (0, 6, 0, 0, 0, 0, 0, 0))
+        self.assertEqual((lent_images[:6], scales[:3]), ([5, 0, 3, 6, 4, 7], [5, 6, 7]))
+        self.refusals([(rows_job(rows + [(4, 0)], step), refused(3, 1, row=4)),
+                       (rows_job([(7, 1), (6, 0)], family_step(1, 4)), refused(3, 1, row=2))])
+
+
 class RowTexts(unittest.TestCase):
     """02, ticket 1: what the program prints for kind 3, and where the fourth byte is 3."""
 
@@ -850,6 +899,15 @@ class Sweeps(unittest.TestCase):
                 ([4, 7], [1, 300], (0, 301, 4)), ([4, 7], [65_535, 65_535], (0, 91_749, 4))]:
             with self.subTest(sizes=sizes, numbers=numbers):
                 self.assertEqual(wf.sweep(10, 1, sizes, numbers, 0, 9), expected)
+
+    def test_half_of_an_odd_window(self):
+        """02, ticket 5: some 20s go, and some floors rise; an even capacity has no such p."""
+        for capacity, low, high, sizes, numbers, expected in [
+                (5, 3, 3, [3, 3], [1, 1], (0, 2, 3)), (5, 3, 3, [], [], (0, 0, 3)), (5, 3, 9, [3], [300], (0, 300, 3)),
+                (5, 0, 2, [3, 3, 3], [1, 1, 1], (0, 2, 0)), (5, 0, 3, [3, 3, 3], [1, 1, 1], (0, 3, 3)),
+                (5, 4, 9, [3], [1], (20, 0, 0)), (6, 4, 4, [3], [1], (20, 0, 0)), (1, 1, 1, [1], [7], (0, 7, 1))]:
+            with self.subTest(capacity=capacity, low=low, high=high):
+                self.assertEqual(wf.sweep(capacity, 1, sizes, numbers, low, high), expected)
 
     def test_most_counts(self):
         most = [LIMIT] * 2048, [65_535] * 2048

@@ -155,13 +155,13 @@ def legal_with_q(capacity, p, q):
 
 
 def legal(capacity, family, p, q):
-    """Families: p and q are legal (refusal 3 does not apply)."""
+    """Families; 02, ticket 5: p and q are legal (refusal 3 does not apply)."""
     if p > LIMIT or q > LIMIT:
         return False
     if family <= 5 and q != 0:
         return False
     if family == 1:
-        return 2 * p <= capacity
+        return 2 * p <= capacity + 1
     if family == 2:
         return p >= 1
     if family == 3:

@@ -47,40 +47,48 @@ def is_read(given):
     return wf.early_job_refusal(given["job"], *by_reference.lent(given)) == wf.ACCEPTED
 
 
-def first_list(kind, fields):
-    """Capacity, sizes and counts of the list, or of row 1."""
+def lists_of(kind, fields):
+    """Capacity, sizes and counts of the list, or of each row."""
     if kind == wf.ROWS:
-        right, *coefficients = wf.rows_of(fields)[0]
-        return right, coefficients, ()
-    return wf.number_of(fields[1][1]), wf.numbers_of(fields[2][1]), wf.counts_of(fields)
+        return [(right, coefficients, ()) for right, *coefficients in wf.rows_of(fields)]
+    return [(wf.number_of(fields[1][1]), wf.sizes_of(fields), wf.counts_of(fields))]
 
 
 def up_to_the_steps(given):
-    """Capacity and steps of the list, or of row 1, if all that is asked before the steps is in order; else none."""
+    """Capacity and steps of the list, or of each row, as far as all that is asked before the steps is in order."""
     if not is_read(given):
-        return 0, []
+        return
     number, fields = wf.read_fields(given["job"])
     if number != wf.ACCEPTED:
-        return 0, []
-    kind = wf.number_of(fields[0][1])
+        return
+    kind = wf.kind_of(fields)
     if kind not in (wf.FLOOR, wf.CUT, wf.ROWS) or (kind == wf.ROWS and wf.rows_refused(wf.rows_of(fields))):
-        return 0, []
-    capacity, sizes, counts = first_list(kind, fields)
-    in_order = wf.list_refusal(kind, capacity, sizes, counts) == wf.ACCEPTED
-    return capacity, wf.steps_of(fields) if in_order else []
+        return
+    for capacity, sizes, counts in lists_of(kind, fields):
+        if wf.list_refusal(kind, capacity, sizes, counts) != wf.ACCEPTED:
+            return
+        yield capacity, wf.steps_of(fields)
+
+
+def steps_taken(capacity, steps):
+    """Each step with the capacity that it gets and its number, up to the first that is refused."""
+    working, listed = [0] * wf.JOB_WORKING, [0] * wf.JOB_LIST
+    for step in steps:
+        number, _, _, scale = wf.take_step(step, capacity, [], working, listed)
+        yield capacity, step, number
+        if number != wf.ACCEPTED:
+            return
+        capacity = scale
 
 
 def bad_table_of_another_capacity(given):
     """The first step that is not accepted is a table of another capacity, and its entries have 8 to 11 wrong. In rows
     the first decides: if it gets through, no table is bad."""
-    capacity, steps = up_to_the_steps(given)
     working, listed = [0] * wf.JOB_WORKING, [0] * wf.JOB_LIST
-    for tag, value in steps:
-        if tag == wf.TABLE_STEP and len(value) // 4 - 1 != capacity:
+    capacity, steps = next(up_to_the_steps(given), (0, []))
+    for _, (_, value), number in steps_taken(capacity, steps):
+        if number == wf.OTHER_CAPACITY:
             return wf.table_check(wf.numbers_of(value), working, listed)[0] != wf.ACCEPTED
-        number, _, _, capacity = wf.take_step((tag, value), capacity, [], working, listed)
-        if number != wf.ACCEPTED:
-            return False
     return False
 
 
@@ -100,6 +108,41 @@ def counts_behind_the_sizes(given):
     return any(part[0] == wf.COUNTS and lies_within(part) for part in parts[3:4])
 
 
+def is_half(capacity, family, p, q):
+    """A threshold that is legal since request 5 and was not before."""
+    return family == 1 and q == 0 and 2 * p == capacity + 1 and not wf.capacity_refused(capacity)
+
+
+def image_of_a_half(given):
+    return is_half(given["capacity"], given["family"], given["p"], given["q"])
+
+
+def sweep_over_a_half(given):
+    """Nothing is wrong before the p are tried, and one of them is half of an odd capacity."""
+    counts = given.get("counts", [1] * len(given["sizes"]))
+    capacity, family, low, high = (given[name] for name in ("capacity", "family", "low", "high"))
+    half = (capacity + 1) // 2
+    return (low <= half <= high and is_half(capacity, family, half, 0)
+            and wf.sweep_refusal(capacity, family, given["sizes"], counts, low, high) == wf.ACCEPTED)
+
+
+def is_half_step(capacity, step):
+    tag, value = step
+    p, q = wf.number_of(value[1:5]), wf.number_of(value[5:9])
+    return tag == wf.FAMILY_STEP and is_half(capacity, value[0], p, q)
+
+
+def job_with_a_half(given):
+    """A step that is reached, in the list or in a row, is half of the odd capacity that it gets."""
+    for capacity, steps in up_to_the_steps(given):
+        taken = list(steps_taken(capacity, steps))
+        if any(is_half_step(present, step) for present, step, _ in taken):
+            return True
+        if any(number != wf.ACCEPTED for _, _, number in taken):
+            return False
+    return False
+
+
 EXCEPTIONS = [
     Rule(1, ("job",), of_kind_3, "kind 3 is read by another grammar, as rows", now=by_reference.answer),
     Rule(1, ("text",), fourth_byte_3, "a refusal prints the row too if the job's fourth byte is 3; no job with that "
@@ -108,4 +151,10 @@ EXCEPTIONS = [
          "gives 18, and its list buffer stays", now=by_reference.answer),
     Rule(4, ("job", "text"), counts_behind_the_sizes, "a tag 7 right after tag 3 where the kind byte is 1 was out of "
          "place, 14, and is now read", now=by_reference.answer),
+    Rule(5, ("image",), image_of_a_half, "p of family 1 with 2p = C + 1 was not legal, 3, and is now",
+         now=by_reference.answer),
+    Rule(5, ("job", "text"), job_with_a_half, "a step of family 1 with 2p = C + 1 at the capacity that it gets was "
+         "refused with 3, and is now accepted", now=by_reference.answer),
+    Rule(5, ("sweep",), sweep_over_a_half, "a range of family 1 has a p with 2p = C + 1: its floor may rise, its 20 "
+         "may go", now=by_reference.answer),
 ]

@@ -14,7 +14,7 @@ sys.dont_write_bytecode = True
 import by_reference
 from compare import compare
 from exceptions import EXCEPTIONS, Rule
-from inputs_base import IDENTITY, LIMIT, family, field, halves, head, job, row, tabled
+from inputs_base import IDENTITY, LIMIT, family, field, halves, head, image, job, row, tabled
 from inputs_request_1 import KIND_3, model
 from stored import LIST, pack_bytes, pack_numbers, unpack, unpack_bytes, unpack_numbers
 
@@ -28,6 +28,13 @@ OTHER_TABLE = ("job=01000101.0200040000000a.030000.05001000000000000000000000000
                "number=11 n=0 floor=0 sum=0 scale=0 step=1 length=2 images=same list=0:1,2")
 COUNTED = ("job=01000101.0200040000000a.03000400000006.070002012c -> "
            "number=14 n=0 floor=0 sum=0 scale=0 step=0 length=0 row=0 images=same list=same scales=same")
+HALVES = dict(  # answers that request 5 changes
+    image="capacity=5 family=1 p=3 q=0 x=3 -> number=3 image=0 scale=0",
+    job="job=01000101.02000400000005.03000400000003.040009010000000300000000 -> "
+        "number=3 n=0 floor=0 sum=0 scale=0 step=1 length=0 row=0 images=same list=same scales=same",
+    text="job=01000101.02000400000005.03000400000003.040009010000000300000000 -> "
+         "status=0 errors=0 text='refused 3 1\\n'",
+    sweep="capacity=5 family=1 sizes=3*2 low=3 high=3 -> number=20 floor=0 p=0")
 SWEEP = "capacity=10 family=1 sizes=6*3 low=0 high=5 -> number=0 floor=3 p=5"
 TEXT = "job= -> status=0 errors=0 text='refused 14 0\\n'"
 CASES = dict(image=IMAGE, table=TABLE, job=JOB, sweep=SWEEP, text=TEXT)
@@ -171,12 +178,25 @@ class Comparison(unittest.TestCase):
         self.assert_fails(f"line 1: {changed}", dict(job=COUNTED), rules, release="request-4")
         self.assert_fails(f"line 1: {changed}", dict(job=COUNTED))
 
+    def test_half_of_an_odd_window(self):
+        """What request 5 makes of answers that it changes."""
+        changed = dict(image="number, image, scale", job="number, n, floor, sum, scale, step, images", text="text",
+                       sweep="number, floor, p")
+        for operation, line in HALVES.items():
+            rules = [rule for rule in EXCEPTIONS if rule.request == 5 and operation in rule.operations]
+            for release in ("base", "request-4"):
+                self.assert_passes("request 5: 1 cases", {operation: line}, rules, release=release)
+            self.assert_fails(f"line 1: {changed[operation]}", {operation: line}, rules, release="request-5")
+            self.assert_fails(f"line 1: {changed[operation]}", {operation: line})
+
 
 class Exceptions(unittest.TestCase):
-    def excepted(self, request, operation, data, **places):
-        given = dict(job=data, **places)
+    def applies(self, request, operation, given):
         rules = [rule for rule in EXCEPTIONS if rule.request == request and operation in rule.operations]
         return any(rule.applies(given) for rule in rules)
+
+    def excepted(self, request, operation, data, **places):
+        return self.applies(request, operation, dict(job=data, **places))
 
     def test_request_1(self):
         """Jobs by kind 3 in a first field of length 1, texts by the fourth byte."""
@@ -257,6 +277,48 @@ class Exceptions(unittest.TestCase):
                 4, False, b"".join(before + [counts, part] + behind), b"".join(before + [counts] + behind + [counts]),
                 b"".join(before + [longer] + behind + [counts]))
         self.assert_not_with_short_buffers(4, data)
+
+    def test_request_5_images(self):
+        for capacity, family_byte, p, q, applies in (
+                (5, 1, 3, 0, True), (1, 1, 1, 0, True), (LIMIT - 1, 1, LIMIT // 2, 0, True), (5, 1, 2, 0, False),
+                (5, 1, 4, 0, False), (6, 1, 3, 0, False), (6, 1, 4, 0, False), (5, 3, 3, 0, False), (5, 1, 3, 1, False),
+                (LIMIT + 1, 1, LIMIT // 2 + 1, 0, False), (2**64 - 1, 1, 2**63, 0, False)):
+            given = image(capacity, family_byte, p, q, 0)
+            self.assertEqual(self.applies(5, "image", given), applies, given)
+
+    def test_request_5_sweeps(self):
+        fine = dict(capacity=5, family=1, sizes=[3, 2], low=1, high=3)
+        for more in (dict(), dict(low=3), dict(high=9), dict(counts=[300, 1]), dict(sizes=[]),
+                     dict(capacity=1, sizes=[1])):
+            self.assertTrue(self.applies(5, "sweep", fine | more), more)
+        for more in (dict(high=2), dict(low=4, high=9), dict(capacity=6), dict(family=3), dict(sizes=[3, 0]),
+                     dict(sizes=[6]), dict(counts=[1]), dict(counts=[1, 0]), dict(high=4097), dict(capacity=LIMIT + 1),
+                     dict(low=3, high=2), dict(sizes=[3] * 2049)):
+            self.assertFalse(self.applies(5, "sweep", fine | more), more)
+
+    def test_request_5_applies(self):
+        """A half that is reached, whatever stands behind it."""
+        half, five = family(1, 3), tabled(0, 0, 0, 0, 5, 5, 5)  # the table makes 5 of 6
+        self.assert_excepted(
+            5, True, job(1, 5, (3,), half), job(2, 5, (0,), half), job(1, 5, (), half), job(1, 1, (1,), family(1, 1)),
+            job(1, 6, (3,), five, half), job(1, 6, (3,), family(1, 3), five, half), job(1, 5, (3,), half, family(8, 1)),
+            job(1, 5, (3,), *[family(1, 0)] * 7, half), job(1, 5, (3,), halves(7, 300), half),
+            model([(5, 3)], half), model([(6, 3), (7,), (5, 3)], half), model([(5, 3), (0,)], half),
+            model([(6, 0), (6, 4)], five, half), model([(12, 3), (11, 3)], family(5, 1), family(1, 6)))
+
+    def test_request_5_does_not_apply(self):
+        """Another p or capacity, and halves behind something that is refused."""
+        half, five = family(1, 3), tabled(0, 0, 0, 0, 5, 5, 5)
+        data = job(1, 5, (3,), half)
+        self.assert_excepted(
+            5, False, b"", job(1, 5, (3,)), job(1, 6, (3,), half), job(1, 6, (3,), family(1, 4)),
+            job(1, 5, (3,), family(1, 4)), job(1, 5, (3,), family(1, 3, 1)), job(1, 5, (3,), family(3, 3)),
+            job(1, 6, (3,), five, family(1, 4)), job(1, 5, (3,), family(2, 2), half),
+            job(1, 5, (3,), family(8, 1), half), job(1, 5, (3,), five, half), job(1, 5, (0,), half),
+            job(1, 5, (6,), half), job(1, 5, (3,), halves(7, 0), half), job(4, 5, (3,), half), data[:-1], data + b"\4",
+            data + bytes(65_536), KIND_3 + half, model([(6, 3)], half), model([(4, 3), (5, 3)], half),
+            model([(6, 7), (5, 3)], half), model([(6,), (0,), (5,)], half), model([(6, 3)] * 64 + [(5, 3)], half))
+        self.assert_not_with_short_buffers(5, data)
 
 
 class StoredForm(unittest.TestCase):

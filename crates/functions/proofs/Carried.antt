@@ -69,7 +69,7 @@ module _ (c p : ℕ) (e : familyRefusal c 1 (p + 1) 0 ≡ 0) where
   unfolding familyRefusal isFamily familyScale legalFor
   accepted-before =
       let a = accepted c 1 (p + 1) 0 e in
-      rw (a .capacity-fits, legal-within c p 0 1 (omega (arith, p-small)) (omega arith) (inr refl), le-leb (2 * p) c (omega (arith, room)), le-ltb limit c (a .capacity-within-limit))
+      rw (a .capacity-fits, legal-within c p 0 1 (omega (arith, p-small)) (omega arith) (inr refl), le-leb (2 * p) (c + 1) (omega (arith, room)), le-ltb limit c (a .capacity-within-limit))
 
   module _ (counts xs : List ℕ) (within : EachWithin c xs) where
     pub carried : weighted counts (map (familyImage c 1 (p + 1) 0) xs) + p * weighted counts (map (sameAs p) xs) ≡ weighted counts (map (familyImage c 1 p 0) xs) + p * weighted counts (map (sameAs (c - p)) xs)

@@ -23,7 +23,7 @@ module _ (c p : ℕ) where
   unfolding threshold
   threshold-middle x h l = simp (le-ltb (c - p) x h, le-ltb x p l)
 
-  module _ (half : 2 * p ≤ c) where
+  module _ (half : 2 * p ≤ c + 1) where
     -- at p or more the image is at least the size
     threshold-up : (x : ℕ) → p ≤ x → x ≤ c → x ≤ threshold c p x
     threshold-up x h l =

@@ -2,7 +2,7 @@
 use mathlib.Core.Path.{_≡_, refl, ap, _∙_}
 use mathlib.Core.Bool.{true}
 use mathlib.Core.Logic.{inr, ⊎-elim}
-use Prim.Native.Nat.{ℕ, _-_, _*_, _%_, _≤_}
+use Prim.Native.Nat.{ℕ, _+_, _-_, _*_, _%_, _≤_}
 use native.Mathlib.Nat.{div-add-mod', mod-zero, mod-eq-of-lt, eq-zero-or-pos}
 use native.Mathlib.Omega.{arith}
 use borrow.Author.Tests.{le-leb, le-ltb}
@@ -30,7 +30,7 @@ module _ (c : ℕ) (fits : capacityFits c ≡ true) where
   pub threshold-identity : Identity c 1 0 0
   unfolding isFamily legalFor familyScale familyImage
   threshold-identity =
-      unchanged 1 0 refl (omega arith) (le-leb (2 * 0) c (omega arith)) refl (λ x l. threshold-middle c 0 x (omega arith) (omega arith))
+      unchanged 1 0 refl (omega arith) (le-leb (2 * 0) (c + 1) (omega arith)) refl (λ x l. threshold-middle c 0 x (omega arith) (omega arith))
 
   module _ (p : ℕ) (divides : c % p ≡ 0) where
     positive : 1 ≤ p

@@ -173,9 +173,9 @@ module _ (c p q : ℕ) where
   unfolding legal
   own family e = both (leb p limit && leb q limit && (ltb 5 family || eqb q 0)) (legalFor c family p q) e .1
 
-  pub legal-1 : legal c 1 p q ≡ true → 2 * p ≤ c
+  pub legal-1 : legal c 1 p q ≡ true → 2 * p ≤ c + 1
   unfolding legalFor
-  legal-1 e = leb-true (2 * p) c (own 1 e)
+  legal-1 e = omega (arith, leb-true (2 * p) _ (own 1 e))
 
   pub legal-2 : legal c 2 p q ≡ true → 1 ≤ p
   unfolding legalFor

@@ -1,7 +1,7 @@
 -- What a prepared step holds, and what each formula asks of it and of a size: the `requires` of the functions in `src/formula.rt`.
 use mathlib.Core.Path.{_≡_, refl, ap, _∙_}
 use mathlib.Core.Bool.{true, false}
-use Prim.Native.Nat.{ℕ, _-_, _*_, _%_, _^_, _≤_, _<_}
+use Prim.Native.Nat.{ℕ, _+_, _-_, _*_, _%_, _^_, _≤_, _<_}
 use native.Mathlib.Nat.{mod-lt}
 use native.Mathlib.Omega.{arith}
 use lib.Dec.{eqb}
@@ -42,8 +42,8 @@ module _ (s : PreparedStep) where
   step-limits family r = limits _ _ _ family (r .accepted)
 
   module _ (x : ℕ) (l : x ≤ s .capacity) where
-    pub ready-1 : PreparedFor 1 s → s .p ≤ s .capacity
-    ready-1 r = omega (arith, legal-1 _ _ _ (legal-step 1 r))
+    pub ready-1 : PreparedFor 1 s → 2 * s .p ≤ s .capacity + 1
+    ready-1 r = legal-1 _ _ _ (legal-step 1 r)
 
     pub ready-2 : PreparedFor 2 s → (0 < s .capacity) × (s .p ≤ limit) × (x < 2 ^ 32)
     ready-2 r = omega (arith, step-limits 2 r)

@@ -100,7 +100,7 @@ legalPair c p q = leb 1 p && leb p c && ltb 0 (c % p) && leb ((p up (c % p)) - 1
 unfoldable pub legalFor : ℕ → ℕ → ℕ → ℕ → Bool
 legalFor c family p q =
     byFamily family false
-    (leb (2 * p) c)
+    (leb (2 * p) (c + 1))
     (leb 1 p)
     (leb 1 p && leb (2 * p) c)
     (leb 2 p && leb p c)

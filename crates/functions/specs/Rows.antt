@@ -1,4 +1,5 @@
--- The starred rows of document 01, "Checked by reckoning", on families: inputs of the image operation with the answer they must have.
+-- The starred rows of document 01, "Checked by reckoning", on families, and those of request 5: inputs of the image operation
+-- with the answer they must have.
 -- The crate `tables` has the rows on tables, and the theorem that all of them hold.
 use mathlib.Core.Bool.{Bool, _&&_}
 use mathlib.Core.List.{List, [], _∷_}
@@ -63,4 +64,9 @@ imageRows =
     ∷ row 10 7 3 2 5 (gives 9 18)
     ∷ row 10 7 3 2 8 (gives 15 18)
     ∷ row 10 7 3 3 2 (gives 4 24)
+    -- request 5: half of an odd window
+    ∷ row 5 1 3 0 2 (gives 0 5)
+    ∷ row 5 1 3 0 3 (gives 5 5)
+    ∷ row 6 1 4 0 3 (refused 3)
+    ∷ row 1 1 1 0 1 (gives 1 1)
     ∷ []

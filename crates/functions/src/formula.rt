@@ -40,9 +40,9 @@ fn mirrored(top: u64, part: u64, x: u64, rest: u64) -> u64
     if x == rest { top } else { 2 * half }
 }
 
-// Family 1.
+// Family 1. No size passes both tests.
 pub(crate) fn threshold(capacity: u64, p: u64, x: u64) -> u64
-    requires { ⌜ p ≤ capacity ⌝ }
+    requires { ⌜ 2 * p ≤ capacity + 1 ⌝ }
     ensures { λ r. ⌜ r ≡ threshold capacity p x ⌝ }
 {
     if capacity - p < x {

@@ -15,11 +15,11 @@ pub(crate) fn is_family(family: u8) -> bool
 
 // The parameter of families 1 to 5, which have no q.
 fn legal_single(capacity: u64, family: u8, p: u64) -> bool
-    requires { ⌜ (1 ≤ family) × (family ≤ 5) × (p ≤ limit) ⌝ }
+    requires { ⌜ (capacity ≤ limit) × (1 ≤ family) × (family ≤ 5) × (p ≤ limit) ⌝ }
     ensures { λ r. ⌜ r ≡ legalFor capacity family p 0 ⌝ }
 {
     match family {
-        1 => 2 * p <= capacity,
+        1 => 2 * p <= capacity + 1,
         2 => 1 <= p,
         3 => 1 <= p && 2 * p <= capacity,
         4 => 2 <= p && p <= capacity,
@@ -43,7 +43,7 @@ fn legal_pair(capacity: u64, p: u64, q: u64) -> bool
 }
 
 pub(crate) fn is_legal(capacity: u64, family: u8, p: u64, q: u64) -> bool
-    requires { ⌜ (1 ≤ family) × (family ≤ 7) ⌝ }
+    requires { ⌜ (capacity ≤ limit) × (1 ≤ family) × (family ≤ 7) ⌝ }
     ensures { λ r. ⌜ r ≡ legal capacity family p q ⌝ }
 {
     if LIMIT < p {

@@ -1,11 +1,12 @@
 -- `judge_family` meets its contract: the refusals stand in the definition's order.
 use mathlib.Core.Path.{_≡_, sym, _∙_}
 use mathlib.Core.Bool.{Bool, true, false, not}
+use native.Mathlib.Omega.{arith}
 use borrow.Author.Tests.{not-true, not-false, lt-ltb, le-ltb}
 use Rattle.functions.specs.Words.{limit, capacityFits}
 use Rattle.functions.specs.Families.{isFamily, legal}
 use Rattle.functions.specs.Image.{familyRefusal, familyAnswer}
-use Rattle.functions.proofs.Legal.{family-bounds}
+use Rattle.functions.proofs.Legal.{capacity-bounds, family-bounds}
 use borrow.Author.Needs.{needs}
 use Rattle.functions.proofs.judge_family.Statement.{statement}
 use Rattle.functions.proofs.judge_family.Tie as tie
@@ -40,7 +41,7 @@ unfolding familyAnswer familyRefusal
 returns-2 c = rw (fits (c .before .before), refused (c .before .is-family .ensures) (c .if2 .taken))
 
 is-legal-requires : tie.Need-is-legal-requires
-is-legal-requires c κs = family-bounds _ (known c)
+is-legal-requires c κs = omega (arith, capacity-bounds _ (fits (c .before .before)), family-bounds _ (known c))
 
 returns-3 : tie.Need-returns-3
 unfolding familyAnswer familyRefusal

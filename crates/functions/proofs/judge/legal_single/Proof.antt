@@ -10,6 +10,9 @@ use Rattle.functions.proofs.judge.legal_single.Tie as tie
 mul-result : tie.Need-mul-result
 mul-result c = search needs
 
+add-result : tie.Need-add-result
+add-result c = search needs
+
 mul-result-2 : tie.Need-mul-result-2
 mul-result-2 c = search needs
 
@@ -53,6 +56,7 @@ legal-single-spec =
     tie.close
     (tie.spec
     mul-result
+    add-result
     mul-result-2
     returns
     returns-2
