@@ -174,8 +174,8 @@ def half_steps(capacity):
     return [family(1, p) for p in (last - 1, last, last + 1)]
 
 
-def half_windows():
-    """Request 5: half of odd and even windows, first and behind steps with another scale, in lists and rows."""
+def first_halves():
+    """Request 5: thresholds at half of odd and even windows, in lists and rows."""
     for capacity in (1, 2, 3, 4, 5, 6, 7, 97, LIMIT - 1, LIMIT):
         last = (capacity + 1) // 2
         sizes = [size for size in (last - 1, last, last + 1, capacity) if 1 <= size <= capacity]
@@ -184,7 +184,11 @@ def half_windows():
         for step in half_steps(capacity):
             yield make(counted_job(capacity, [(size, 300 + size % 7) for size in sizes], step))
             yield make(rows_job([(capacity, *sizes), (capacity + 1, 1), (capacity - 1, 0)], step))
-    for scale in (1, 2, 5, 6, 9, LIMIT - 1, LIMIT):  # the table leaves its last entry to the step behind it
+
+
+def later_halves():
+    """Behind steps that leave another capacity."""
+    for scale in (1, 2, 5, 6, 9, LIMIT - 1, LIMIT):
         small = table(*[0] * 6, *[scale] * 5)
         for step in half_steps(scale) + half_steps(10):
             yield make(job(1, 10, (3, 6, 8, 10), small, step))
@@ -192,9 +196,12 @@ def half_windows():
         for step in half_steps(present) + half_steps(11):
             yield make(job(1, 11, range(1, 12), before, step))
             yield make(job(2, 11, range(12), step, before, step))
-    for places in itertools.product((family(1, 3), table(0, 0, 0, 5, 5, 5)), repeat=3):
-        yield make(job(1, 5, (1, 2, 3, 4, 5), *places))
-        yield make(rows_job([(5, 2, 3), (5, 0), (5, 4, 1)], *places, family(1, 4)))
+
+
+def chains_of_halves():
+    for steps in itertools.product((family(1, 3), table(0, 0, 0, 5, 5, 5)), repeat=3):
+        yield make(job(1, 5, (1, 2, 3, 4, 5), *steps))
+        yield make(rows_job([(5, 2, 3), (5, 0), (5, 4, 1)], *steps, family(1, 4)))
     for count in (8, 9):
         yield make(job(1, 5, (1, 2, 3, 4, 5), *[family(1, 3)] * count))
 
@@ -256,7 +263,7 @@ def all_cases():
     cases = {}
     for part in (reckoned, form, truncated, tag_orders, lengths, chains, bad_steps, other_capacities,
                  capacities, kinds, counts, roundings, buffers, longest, random_cases, row_cases,
-                 count_cases, half_windows):
+                 count_cases, first_halves, later_halves, chains_of_halves):
         cases.update(dict.fromkeys(part()))
     return list(cases)
 
