@@ -205,12 +205,13 @@ static void count_rounded(enum quotient quotient, uint64_t a, uint64_t b)
     rounded[quotient][left == 0 ? NONE : left == 1 ? ONE : left == b - 1 ? ONE_SHORT : ANOTHER]++;
 }
 
+/* Family 1, with 2 * p so much more than the capacity. */
 static int is_threshold(uint64_t capacity, uint8_t family, uint64_t p, uint64_t more)
 {
     return family == 1 && 2 * p == capacity + more;
 }
 
-/* The quotient that an accepted image rounds up, if there is one. */
+/* Of an accepted image: a threshold at half, and the quotient that it rounds up, if there is one. */
 static void count_image(const struct image_input *in)
 {
     halves[IN_IMAGE] += is_threshold(in->capacity, in->family, in->p, 1);
@@ -505,7 +506,7 @@ static void compare_job(const struct job_input *in)
         count_refusal(in, &library);
 }
 
-/* The quotient of the floor that a sweep has found, and its counts. */
+/* Of the floor that a sweep has found: its quotient, its counts, and whether its p is a threshold at half. */
 static void count_sweep(const struct sweep_input *in, uint64_t p)
 {
     uint64_t sum = 0;
