@@ -59,9 +59,10 @@ target/room:
 target/proved-tables.log: target/proved-functions.log
 target/proved-fields.log: target/proved-tables.log
 target/proved-chains.log: target/proved-fields.log
-target/proved-jobs.log: target/proved-chains.log
+target/proved-blocks.log: target/proved-chains.log
+target/proved-jobs.log: target/proved-blocks.log
 target/staticlib/libtables.a: target/proved-functions.log | target/staticlib/libfunctions.a
-target/staticlib/libjobs.a: target/proved-chains.log | target/staticlib/libtables.a
+target/staticlib/libjobs.a: target/proved-blocks.log | target/staticlib/libtables.a
 target/staticlib/libsweeps.a: target/proved-jobs.log | target/staticlib/libjobs.a
 
 # touch: rt leaves the program as it is where nothing that it is made of has changed.

@@ -45,11 +45,11 @@ static uint16_t counts[WINDOWFLOOR_MOST_SIZES];
 static const uint64_t low = 1, high = 4096;
 
 static struct {
-    uint64_t answer[8];
+    uint64_t answer[9];
     uint64_t image_answers[IMAGES];
     uint64_t working[WINDOWFLOOR_JOB_WORKING];
     uint32_t images[WINDOWFLOOR_JOB_IMAGES], list[WINDOWFLOOR_JOB_LIST];
-    uint32_t scales[WINDOWFLOOR_JOB_SCALES];
+    uint32_t scales[WINDOWFLOOR_JOB_SCALES], blocks[WINDOWFLOOR_JOB_BLOCKS];
 } out;
 
 /* One call of each operation */
@@ -81,10 +81,10 @@ static void run_one_job(const struct contender *who)
         who->parts == NULL
             ? windowfloor_job(job, job_bytes, out.images, WINDOWFLOOR_JOB_IMAGES, out.working,
                               WINDOWFLOOR_JOB_WORKING, out.list, WINDOWFLOOR_JOB_LIST, out.scales,
-                              WINDOWFLOOR_JOB_SCALES)
+                              WINDOWFLOOR_JOB_SCALES, out.blocks, WINDOWFLOOR_JOB_BLOCKS)
             : run_job(who->parts, job, job_bytes, out.images, WINDOWFLOOR_JOB_IMAGES, out.working,
                       WINDOWFLOOR_JOB_WORKING, out.list, WINDOWFLOOR_JOB_LIST, out.scales,
-                      WINDOWFLOOR_JOB_SCALES);
+                      WINDOWFLOOR_JOB_SCALES, out.blocks, WINDOWFLOOR_JOB_BLOCKS);
     memcpy(out.answer, &answer, sizeof answer);
 }
 
@@ -187,6 +187,14 @@ static void put_counts(size_t n)
         put(draw_count(), 2);
 }
 
+/* n sizes in so many blocks of equal length. */
+static void put_blocks(size_t blocks, size_t n)
+{
+    put_header(WINDOWFLOOR_TAG_BLOCKS, 2 * blocks);
+    for (size_t i = 0; i < blocks; i++)
+        put(n / blocks, 2);
+}
+
 /* Rows of n coefficients in all; each right side is that of the row before, less a distance. */
 static void put_rows(size_t rows, size_t n, uint32_t right_side, uint32_t distance)
 {
@@ -237,6 +245,21 @@ static void prepare_counted_job(int steps)
 {
     put_list(1000000, WINDOWFLOOR_MOST_SIZES);
     put_counts(WINDOWFLOOR_MOST_SIZES);
+    put_families(steps);
+}
+
+static void prepare_blocked_job(int steps)
+{
+    put_list(1000000, WINDOWFLOOR_MOST_SIZES);
+    put_blocks(WINDOWFLOOR_MOST_BLOCKS, WINDOWFLOOR_MOST_SIZES);
+    put_families(steps);
+}
+
+static void prepare_counted_blocked_job(int steps)
+{
+    put_list(1000000, WINDOWFLOOR_MOST_SIZES);
+    put_counts(WINDOWFLOOR_MOST_SIZES);
+    put_blocks(WINDOWFLOOR_MOST_BLOCKS, WINDOWFLOOR_MOST_SIZES);
     put_families(steps);
 }
 
@@ -299,22 +322,27 @@ struct row {
     const char *unit;
     double per_second; /* units */
     double inputs;     /* of one call */
-    double at_most;    /* this many times the row before; 0: no such goal */
+    double at_most;    /* this many times an earlier row; 0: no such goal */
+    int back;          /* that row is so many rows before */
     uint64_t number;   /* that refuses it, or 0 */
 };
 
-#define IMAGE_ROW(with, name) {"image, " name, prepare_images, with, run_images, "ns", 1e9, IMAGES, 0, 0}
-#define TABLE_ROW(with, c) {"table check, C = " c, prepare_table, with, run_table_check, "µs", 1e6, 1, 0, 0}
+#define IMAGE_ROW(with, name) {"image, " name, prepare_images, with, run_images, "ns", 1e9, IMAGES, 0, 0, 0}
+#define TABLE_ROW(with, c) \
+    {"table check, C = " c, prepare_table, with, run_table_check, "µs", 1e6, 1, 0, 0, 0}
 #define JOB_ROW(prepare, with, what, at_most) \
-    {"job, " what, prepare, with, run_one_job, "µs", 1e6, 1, at_most, 0}
+    {"job, " what, prepare, with, run_one_job, "µs", 1e6, 1, at_most, 1, 0}
+/* Two rows behind the one without blocks. */
+#define BLOCKS_ROW(prepare, with, what, at_most) \
+    {"job, " what, prepare, with, run_one_job, "µs", 1e6, 1, at_most, 2, 0}
 #define SHORT_TABLE_ROW(with, what, at_most) \
-    {"job, " what, prepare_short_table, with, run_one_job, "µs", 1e6, 1, at_most, \
+    {"job, " what, prepare_short_table, with, run_one_job, "µs", 1e6, 1, at_most, 1, \
      WINDOWFLOOR_OTHER_CAPACITY}
 #define SWEEP_ROW(with, name) \
-    {"sweep, 4,096 p × 2,048 sizes, " name, prepare_sweep, with, run_one_sweep, "ms", 1e3, 1, 0, 0}
+    {"sweep, 4,096 p × 2,048 sizes, " name, prepare_sweep, with, run_one_sweep, "ms", 1e3, 1, 0, 0, 0}
 #define COUNTED_SWEEP_ROW(with, name) \
     {"sweep, 4,096 p × 2,048 sizes with counts, " name, prepare_counted_sweep, with, run_one_sweep, \
-     "ms", 1e3, 1, 0, 0}
+     "ms", 1e3, 1, 0, 0, 0}
 
 static const struct row rows[] = {
     IMAGE_ROW(1, "family 1 (threshold)"),
@@ -331,6 +359,8 @@ static const struct row rows[] = {
     JOB_ROW(prepare_family_job, 1, "2,048 sizes, 1 family step", 0),
     JOB_ROW(prepare_family_job, 8, "2,048 sizes, 8 family steps", 0),
     JOB_ROW(prepare_counted_job, 8, "2,048 sizes with counts, 8 family steps", 1.15),
+    BLOCKS_ROW(prepare_blocked_job, 8, "2,048 sizes in 64 blocks, 8 family steps", 1.1),
+    BLOCKS_ROW(prepare_counted_blocked_job, 8, "2,048 sizes with counts in 64 blocks, 8 family steps", 1.1),
     JOB_ROW(prepare_table_job, 7, "2,039 sizes, 7 tables of 2,048 entries", 0),
     JOB_ROW(prepare_table_job, 1, "2,039 sizes, 1 table of 2,048 entries", 0),
     SHORT_TABLE_ROW(2, "2,039 sizes, 1 table of 2,048 entries, then one refused with 18", 1.3),
@@ -446,21 +476,22 @@ static void print_row(const struct row *row, struct samples *samples)
     printf(" %.2f | %.2f |\n", medians[LIBRARY] / medians[PLAIN], medians[LIBRARY] / medians[TUNED]);
 }
 
-/* What a row costs, in times of the row before. */
+/* What a row costs, in times of an earlier one. */
 static void print_times(const struct row *row, struct samples *samples)
 {
-    printf("| %s |", row->name);
+    const struct row *other = row - row->back;
+    printf("| %s | %s |", row->name, other->name);
     for (int who = 0; who < CONTENDERS; who++)
-        printf(" %.3f |", median(row, samples, who) / median(row - 1, samples - 1, who));
+        printf(" %.3f |", median(row, samples, who) / median(other, samples - row->back, who));
     printf(" %.2f |\n", row->at_most);
 }
 
-static void print_head(const char *first, const char *last)
+static void print_head(const char *first, const char *last, const char *rule)
 {
     printf("|%s |", first);
     for (int who = 0; who < CONTENDERS; who++)
         printf(" %s |", contenders[who].name);
-    printf(" %s |\n|---|---:|---:|---:|---:|", last);
+    printf(" %s |\n%s\n", last, rule);
 }
 
 enum { ROWS = sizeof rows / sizeof *rows };
@@ -468,13 +499,11 @@ enum { ROWS = sizeof rows / sizeof *rows };
 static void print_tables(struct samples *samples)
 {
     printf("C compiled by %s, -O3; medians of %d rounds\n\n", COMPILER, ROUNDS);
-    print_head("", "to plain | to tuned");
-    printf("---:|\n");
+    print_head("", "to plain | to tuned", "|---|---:|---:|---:|---:|---:|");
     for (int i = 0; i < ROWS; i++)
         print_row(&rows[i], &samples[i]);
     printf("\n");
-    print_head(" in times of the row before", "at most");
-    printf("\n");
+    print_head(" | in times of", "at most", "|---|---|---:|---:|---:|---:|");
     for (int i = 0; i < ROWS; i++)
         if (rows[i].at_most > 0)
             print_times(&rows[i], &samples[i]);

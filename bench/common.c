@@ -64,6 +64,8 @@ struct list {
     uint64_t capacity;
     size_t n;
     const uint8_t *sizes, *counts; /* no counts: NULL, and each is 1 */
+    const uint8_t *blocks;         /* or NULL */
+    size_t block_count;
 };
 
 struct contents {
@@ -84,6 +86,11 @@ static int counts_in_place(const struct contents *c)
     return c->kind == WINDOWFLOOR_KIND_FLOOR && c->last_tag == WINDOWFLOOR_TAG_SIZES;
 }
 
+static int blocks_in_place(const struct contents *c)
+{
+    return counts_in_place(c) || c->last_tag == WINDOWFLOOR_TAG_COUNTS;
+}
+
 static int tag_in_place(const struct contents *c, uint8_t tag)
 {
     switch (tag) {
@@ -95,6 +102,8 @@ static int tag_in_place(const struct contents *c, uint8_t tag)
         return step_in_place(c);
     case WINDOWFLOOR_TAG_COUNTS:
         return counts_in_place(c);
+    case WINDOWFLOOR_TAG_BLOCKS:
+        return blocks_in_place(c);
     default:
         return tag == WINDOWFLOOR_TAG_ROW && c->kind == WINDOWFLOOR_KIND_ROWS && c->steps == 0;
     }
@@ -109,13 +118,14 @@ static int length_right(const struct contents *c, uint8_t tag, size_t length)
     case WINDOWFLOOR_TAG_FAMILY: return length == 9;
     case WINDOWFLOOR_TAG_TABLE: return length % 4 == 0 && length >= 8 && length <= 8192;
     case WINDOWFLOOR_TAG_COUNTS: return length == 2 * c->sizes;
+    case WINDOWFLOOR_TAG_BLOCKS: return length % 2 == 0;
     default: return length % 4 == 0 && length >= 4;
     }
 }
 
 static void add_row(struct contents *c, const uint8_t *value, size_t length)
 {
-    struct list row = {word(value), length / 4 - 1, value + 4, NULL};
+    struct list row = {word(value), length / 4 - 1, value + 4, NULL, NULL, 0};
     if (c->lists < WINDOWFLOOR_MOST_ROWS)
         c->list[c->lists] = row;
     c->lists++;
@@ -135,11 +145,15 @@ static void add_field(struct contents *c, uint8_t tag, const uint8_t *value, siz
     case WINDOWFLOOR_TAG_SIZES:
         c->lists = 1;
         c->list[0].sizes = value;
-        c->list[0].counts = NULL;
+        c->list[0].counts = c->list[0].blocks = NULL;
         c->list[0].n = c->sizes = length / 4;
         break;
     case WINDOWFLOOR_TAG_COUNTS:
         c->list[0].counts = value;
+        break;
+    case WINDOWFLOOR_TAG_BLOCKS:
+        c->list[0].blocks = value;
+        c->list[0].block_count = length / 2;
         break;
     case WINDOWFLOOR_TAG_ROW:
         add_row(c, value, length);
@@ -197,6 +211,19 @@ static int any_count_0(const struct list *list)
     return found;
 }
 
+static int blocks_wrong(const struct list *list)
+{
+    size_t sizes = 0;
+    int empty = 0;
+    if (list->block_count > WINDOWFLOOR_MOST_BLOCKS)
+        return 1;
+    for (size_t i = 0; i < list->block_count; i++) {
+        sizes += halfword(list->blocks + 2 * i);
+        empty |= halfword(list->blocks + 2 * i) == 0;
+    }
+    return empty || sizes != list->n;
+}
+
 static uint64_t start_chain(const struct list *list, uint32_t least, struct chain *chain)
 {
     if (list->capacity < 1 || list->capacity > LIMIT)
@@ -207,7 +234,9 @@ static uint64_t start_chain(const struct list *list, uint32_t least, struct chai
     for (size_t i = 0; i < chain->n; i++)
         if (chain->images[i] < least || chain->images[i] > chain->scale)
             return WINDOWFLOOR_BAD_SIZE;
-    return any_count_0(list) ? WINDOWFLOOR_COUNT_0 : 0;
+    if (any_count_0(list))
+        return WINDOWFLOOR_COUNT_0;
+    return list->blocks != NULL && blocks_wrong(list) ? WINDOWFLOOR_BAD_BLOCKS : 0;
 }
 
 static uint64_t family_step(const struct parts *parts, const struct step *step, struct chain *chain)
@@ -271,31 +300,33 @@ static void run_steps(const struct parts *parts, const struct contents *c, int f
     }
 }
 
-/* A loop of its own for each, so that neither asks for counts. */
-static uint64_t weighted_sum(const uint8_t *counts, const struct chain *chain)
+static void add_floors(const struct parts *parts, const struct list *list,
+                       const struct chain *chain, uint32_t *blocks,
+                       struct windowfloor_job_answer *answer)
 {
-    uint64_t sum = 0;
-    if (counts == NULL)
-        for (size_t i = 0; i < chain->n; i++)
-            sum += chain->images[i];
-    else
-        for (size_t i = 0; i < chain->n; i++)
-            sum += (uint64_t)halfword(counts + 2 * i) * chain->images[i];
-    return sum;
+    const struct counted counted = {chain->images, list->counts, chain->n};
+    if (list->blocks == NULL) {
+        answer->sum = sum_from(&counted, 0, chain->n);
+        answer->total = round_up(answer->sum, chain->scale);
+    } else {
+        struct sums sums =
+            parts->floor_blocks(&counted, list->blocks, list->block_count, chain->scale, blocks);
+        answer->sum = sums.sum;
+        answer->total = sums.total;
+    }
+    answer->floor = round_up(answer->sum, chain->scale);
 }
 
-static void accept(const struct contents *c, const struct chain *chain,
-                   struct windowfloor_job_answer *answer)
+static void accept(const struct parts *parts, const struct contents *c, const struct chain *chain,
+                   uint32_t *blocks, struct windowfloor_job_answer *answer)
 {
     answer->scale = chain->scale;
-    if (c->kind == WINDOWFLOOR_KIND_CUT)
-        return;
-    answer->sum = weighted_sum(c->list[0].counts, chain);
-    answer->floor = round_up(answer->sum, answer->scale);
+    if (c->kind == WINDOWFLOOR_KIND_FLOOR)
+        add_floors(parts, &c->list[0], chain, blocks, answer);
 }
 
 static void run_lists(const struct parts *parts, const struct contents *c, uint32_t *images,
-                      uint64_t *working, uint32_t *list, uint32_t *scales,
+                      uint64_t *working, uint32_t *list, uint32_t *scales, uint32_t *blocks,
                       struct windowfloor_job_answer *answer)
 {
     uint32_t mapped[WINDOWFLOOR_MOST_SIZES], reached[WINDOWFLOOR_MOST_ROWS];
@@ -315,26 +346,28 @@ static void run_lists(const struct parts *parts, const struct contents *c, uint3
     if (rows)
         memcpy(scales, reached, c->lists * sizeof *scales);
     else
-        accept(c, &chain, answer);
+        accept(parts, c, &chain, blocks, answer);
 }
 
 struct windowfloor_job_answer run_job(const struct parts *parts, const uint8_t *job, size_t bytes,
                                       uint32_t *images, size_t images_places,
                                       uint64_t *working, size_t working_places,
                                       uint32_t *list, size_t list_places,
-                                      uint32_t *scales, size_t scales_places)
+                                      uint32_t *scales, size_t scales_places,
+                                      uint32_t *blocks, size_t blocks_places)
 {
-    struct windowfloor_job_answer answer = {0, 0, 0, 0, 0, 0, 0, 0};
+    struct windowfloor_job_answer answer = {0, 0, 0, 0, 0, 0, 0, 0, 0};
     struct contents contents;
     if (bytes > WINDOWFLOOR_MOST_JOB_BYTES)
         answer.number = WINDOWFLOOR_JOB_TOO_LONG;
     else if (images_places < WINDOWFLOOR_JOB_IMAGES || working_places < WINDOWFLOOR_JOB_WORKING
-             || list_places < WINDOWFLOOR_JOB_LIST || scales_places < WINDOWFLOOR_JOB_SCALES)
+             || list_places < WINDOWFLOOR_JOB_LIST || scales_places < WINDOWFLOOR_JOB_SCALES
+             || blocks_places < WINDOWFLOOR_JOB_BLOCKS)
         answer.number = WINDOWFLOOR_SHORT_BUFFER;
     else
         answer.number = read_fields(job, bytes, &contents);
     if (answer.number == 0)
-        run_lists(parts, &contents, images, working, list, scales, &answer);
+        run_lists(parts, &contents, images, working, list, scales, blocks, &answer);
     return answer;
 }
 

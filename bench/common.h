@@ -16,7 +16,7 @@ static inline int legal(uint64_t capacity, uint8_t family, uint64_t p, uint64_t 
     if (p > LIMIT || q > LIMIT || (family <= 5 && q != 0))
         return 0;
     switch (family) {
-    case 1: return 2 * p <= capacity;
+    case 1: return 2 * p <= capacity + 1;
     case 2: return p >= 1;
     case 3: return p >= 1 && 2 * p <= capacity;
     case 4: return p >= 2 && p <= capacity;
@@ -65,7 +65,7 @@ static inline void decode(const uint8_t *bytes, uint32_t *out, size_t n)
         out[i] = word(bytes + 4 * i);
 }
 
-/* A count of a job: two bytes. */
+/* A count of a job, or the sizes of a block: two bytes. */
 static inline uint16_t halfword(const uint8_t *at)
 {
     return (uint16_t)(at[0] << 8 | at[1]);
@@ -77,6 +77,31 @@ typedef struct windowfloor_image_answer image_function(uint64_t capacity, uint8_
 
 image_function plain_image, tuned_image;
 
+/* The images of a job with their counts as they lie in it, or NULL: each is 1. */
+struct counted {
+    const uint32_t *images;
+    const uint8_t *counts;
+    size_t n;
+};
+
+struct sums {
+    uint64_t sum, total;
+};
+
+/* Of count times image, over n sizes from a place on. A loop of its own for each, so that neither asks for
+ * counts. */
+static inline uint64_t sum_from(const struct counted *list, size_t from, size_t n)
+{
+    uint64_t sum = 0;
+    if (list->counts == NULL)
+        for (size_t i = from; i < from + n; i++)
+            sum += list->images[i];
+    else
+        for (size_t i = from; i < from + n; i++)
+            sum += (uint64_t)halfword(list->counts + 2 * i) * list->images[i];
+    return sum;
+}
+
 struct parts {
     void (*fill_bests)(const uint32_t *table, size_t capacity, uint64_t *best);
     void (*map_family)(uint64_t capacity, uint8_t family, uint64_t p, uint64_t q, uint32_t *list,
@@ -86,6 +111,9 @@ struct parts {
     /* of count times image */
     uint64_t (*sum_of_images)(uint64_t capacity, uint8_t family, uint64_t p, const uint32_t *sizes,
                               const uint16_t *counts, size_t n);
+    /* writes the floor of each block; the sum of all, and the floors' total */
+    struct sums (*floor_blocks)(const struct counted *list, const uint8_t *blocks, size_t count,
+                                uint64_t scale, uint32_t *floors);
 };
 
 extern const struct parts plain_parts, tuned_parts;
@@ -100,7 +128,8 @@ struct windowfloor_job_answer run_job(const struct parts *parts, const uint8_t *
                                       uint32_t *images, size_t images_places,
                                       uint64_t *working, size_t working_places,
                                       uint32_t *list, size_t list_places,
-                                      uint32_t *scales, size_t scales_places);
+                                      uint32_t *scales, size_t scales_places,
+                                      uint32_t *blocks, size_t blocks_places);
 
 struct windowfloor_sweep_answer run_sweep(const struct parts *parts, uint64_t capacity,
                                           uint8_t family, const uint32_t *sizes, size_t n,

@@ -126,4 +126,18 @@ static uint64_t sum_of_images(uint64_t capacity, uint8_t family, uint64_t p, con
     return sum;
 }
 
-const struct parts plain_parts = {fill_bests, map_family, map_table, sum_of_images};
+static struct sums floor_blocks(const struct counted *list, const uint8_t *blocks, size_t count,
+                                uint64_t scale, uint32_t *floors)
+{
+    struct sums sums = {sum_from(list, 0, list->n), 0};
+    size_t at = 0;
+    for (size_t i = 0; i < count; i++) {
+        size_t n = halfword(blocks + 2 * i);
+        floors[i] = (uint32_t)round_up(sum_from(list, at, n), scale);
+        sums.total += floors[i];
+        at += n;
+    }
+    return sums;
+}
+
+const struct parts plain_parts = {fill_bests, map_family, map_table, sum_of_images, floor_blocks};

@@ -177,4 +177,21 @@ static void fill_bests(const uint32_t *table, size_t capacity, uint64_t *best)
     }
 }
 
-const struct parts tuned_parts = {fill_bests, map_family, map_table, sum_of_images};
+/* Each image is added once: the sum of all is that of the blocks. */
+static struct sums floor_blocks(const struct counted *list, const uint8_t *blocks, size_t count,
+                                uint64_t scale, uint32_t *floors)
+{
+    struct sums sums = {0, 0};
+    size_t at = 0;
+    for (size_t i = 0; i < count; i++) {
+        size_t n = halfword(blocks + 2 * i);
+        uint64_t sum = sum_from(list, at, n), floor = round_up(sum, scale);
+        floors[i] = (uint32_t)floor;
+        sums.sum += sum;
+        sums.total += floor;
+        at += n;
+    }
+    return sums;
+}
+
+const struct parts tuned_parts = {fill_bests, map_family, map_table, sum_of_images, floor_blocks};

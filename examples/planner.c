@@ -1,7 +1,10 @@
-/* The best floor for a list of sizes, and the cut that the same step makes of them as a row; or the cuts
- * that the steps given make of all rows of a model, in one job.
+/* The best floor for a list of sizes, and the cut that the same step makes of them as a row; of a list in
+ * blocks, which share no windows, also the floor of each block and their total; or the cuts that the steps
+ * given make of all rows of a model, in one job.
  *
- *     planner CAPACITY SIZE[xCOUNT]...        5x300 is a size of 5 with 300 copies; without a count, one
+ *     planner CAPACITY SIZE[xCOUNT]... [/ SIZE[xCOUNT]...]...
+ *                                             5x300 is a size of 5 with 300 copies; without a count, one.
+ *                                             A / ends a block: 7 5 / 7 5 / 5 is three of them
  *     planner FILE                            the same words, in a file
  *     planner --rows FILE [FAMILY P Q]...     each line of the file is a row: right side, coefficients
  *
@@ -26,6 +29,8 @@ struct list {
     size_t n;
     uint32_t sizes[WINDOWFLOOR_MOST_SIZES];
     uint16_t counts[WINDOWFLOOR_MOST_SIZES];
+    size_t ended; /* the blocks that a / has ended; there is one more, or without any / none */
+    uint16_t block_sizes[WINDOWFLOOR_MOST_BLOCKS];
 };
 
 struct step {
@@ -60,7 +65,8 @@ static void stop_if_refused(const char *operation, uint64_t number, uint64_t row
 }
 
 /* Reading numbers: words of digits alone, in a file or as arguments; a size may have an x and a count
- * behind it. The first word that is wrong ends the program, which tells its place. */
+ * behind it, and among the sizes a / is a word too. The first word that is wrong ends the program, which
+ * tells its place. */
 
 enum { SHOWN = 20 }; /* characters of a wrong word that are shown */
 
@@ -183,11 +189,29 @@ static void add_size(struct list *list, const struct word *word, const struct pl
     stop_if(fault_in_list(word, list), place, word);
     list->sizes[list->n] = (uint32_t)word->number.value;
     list->counts[list->n] = word->has_x ? (uint16_t)word->count.value : 1;
+    list->block_sizes[list->ended]++;
     list->n++;
+}
+
+static int is_slash(const struct word *word)
+{
+    return word->length == 1 && word->start[0] == '/';
+}
+
+/* A block without sizes is for the library to refuse. */
+static void end_block(struct list *list, const struct word *word, const struct place *place)
+{
+    if (list->ended + 1 == WINDOWFLOOR_MOST_BLOCKS)
+        stop_at_word(place, "more blocks than a job can have", word);
+    list->ended++;
 }
 
 static void add_word(struct list *list, const struct word *word, const struct place *place)
 {
+    if (list->has_capacity && is_slash(word)) {
+        end_block(list, word, place);
+        return;
+    }
     stop_if(fault_of(word, list->has_capacity), place, word);
     if (list->has_capacity) {
         add_size(list, word, place);
@@ -273,8 +297,8 @@ static struct word word_of(const char *argument)
 
 static void stop_with_usage(void)
 {
-    fprintf(stderr, "planner: usage: planner CAPACITY SIZE[xCOUNT]... | planner FILE"
-                    " | planner --rows FILE [FAMILY P Q]...\n");
+    fprintf(stderr, "planner: usage: planner CAPACITY SIZE[xCOUNT]... [/ SIZE[xCOUNT]...]..."
+                    " | planner FILE | planner --rows FILE [FAMILY P Q]...\n");
     exit(2);
 }
 
@@ -372,7 +396,19 @@ static void put_counts(struct job *job, const struct list *list)
         put(job, list->counts[i], 2);
 }
 
-/* Counts are for floors: a cut is of the row of sizes, whatever their counts. */
+static int has_blocks(const struct list *list)
+{
+    return list->ended > 0;
+}
+
+static void put_blocks(struct job *job, const struct list *list)
+{
+    put_header(job, WINDOWFLOOR_TAG_BLOCKS, 2 * (list->ended + 1));
+    for (size_t i = 0; i <= list->ended; i++)
+        put(job, list->block_sizes[i], 2);
+}
+
+/* Counts and blocks are for floors: a cut is of the row of sizes, whatever these are. */
 static void write_list(struct job *job, uint8_t kind, const struct list *list, struct step step)
 {
     start_job(job, kind);
@@ -382,6 +418,8 @@ static void write_list(struct job *job, uint8_t kind, const struct list *list, s
     put_list(job, list->sizes, list->n);
     if (kind == WINDOWFLOOR_KIND_FLOOR && has_counts(list))
         put_counts(job, list);
+    if (kind == WINDOWFLOOR_KIND_FLOOR && has_blocks(list))
+        put_blocks(job, list);
     if (step.family != 0)
         put_step(job, step);
 }
@@ -400,25 +438,25 @@ static void write_model(struct job *job, const struct model *model)
 }
 
 static struct windowfloor_job_answer run_job(const struct job *job, uint32_t *images,
-                                             uint32_t *scales)
+                                             uint32_t *scales, uint32_t *blocks)
 {
     static uint64_t working[WINDOWFLOOR_JOB_WORKING];
     static uint32_t counterexample[WINDOWFLOOR_JOB_LIST];
     struct windowfloor_job_answer answer =
         windowfloor_job(job->bytes, job->length, images, WINDOWFLOOR_JOB_IMAGES, working,
                         WINDOWFLOOR_JOB_WORKING, counterexample, WINDOWFLOOR_JOB_LIST, scales,
-                        WINDOWFLOOR_JOB_SCALES);
+                        WINDOWFLOOR_JOB_SCALES, blocks, WINDOWFLOOR_JOB_BLOCKS);
     stop_if_refused("job", answer.number, answer.row, answer.step);
     return answer;
 }
 
-static struct windowfloor_job_answer run_list(uint8_t kind, const struct list *list,
-                                              struct step step, uint32_t *images)
+static struct windowfloor_job_answer run_list(uint8_t kind, const struct list *list, struct step step,
+                                              uint32_t *images, uint32_t *blocks)
 {
     static struct job job;
     static uint32_t scales[WINDOWFLOOR_JOB_SCALES]; /* kinds 1 and 2 leave it as it is */
     write_list(&job, kind, list, step);
-    return run_job(&job, images, scales);
+    return run_job(&job, images, scales, blocks);
 }
 
 /* The sweeps. From 1 on, the p of a family that are legal with a scale within the limit are one run of
@@ -512,19 +550,31 @@ static void print_half(const struct list *list, struct step step)
            "\n", half, answer.image, answer.scale);
 }
 
-/* As they can be read again. */
-static void print_sizes(const struct list *list)
+static void print_block(const struct list *list, size_t first, size_t n)
 {
-    for (size_t i = 0; i < list->n; i++) {
+    for (size_t i = first; i < first + n; i++) {
         printf(" %" PRIu32, list->sizes[i]);
         if (list->counts[i] != 1)
             printf("x%" PRIu16, list->counts[i]);
     }
 }
 
+/* As they can be read again. */
+static void print_sizes(const struct list *list)
+{
+    size_t first = 0;
+    for (size_t i = 0; i <= list->ended; i++) {
+        printf("%s", i > 0 ? " /" : "");
+        print_block(list, first, list->block_sizes[i]);
+        first += list->block_sizes[i];
+    }
+}
+
 static void print_list(const struct list *list)
 {
     printf("capacity %" PRIu64 ", %zu sizes", list->capacity, list->n);
+    if (has_blocks(list))
+        printf(", %zu blocks", list->ended + 1);
     if (has_counts(list)) {
         printf(":");
         print_sizes(list);
@@ -532,18 +582,30 @@ static void print_list(const struct list *list)
     printf("\n");
 }
 
+static void print_floors(const uint32_t *floors, size_t blocks, uint64_t total)
+{
+    printf("blocks:");
+    for (size_t i = 0; i < blocks; i++)
+        printf(" %" PRIu32, floors[i]);
+    printf(", total %" PRIu64 "\n", total);
+}
+
 static void plan_list(const struct list *list)
 {
-    static uint32_t images[WINDOWFLOOR_JOB_IMAGES];
+    static uint32_t images[WINDOWFLOOR_JOB_IMAGES], floors[WINDOWFLOOR_JOB_BLOCKS];
     struct step none = {0, 0, 0, 0};
     if (list->capacity > UINT32_MAX)
         stop_if_refused("job", WINDOWFLOOR_BAD_CAPACITY, 0, 0); /* a job has four bytes for it */
-    uint64_t without = run_list(WINDOWFLOOR_KIND_FLOOR, list, none, images).floor;
+    uint64_t without = run_list(WINDOWFLOOR_KIND_FLOOR, list, none, images, floors).floor;
     print_list(list);
     printf("  %-19s           floor %" PRIu64 "\n", families[0], without);
     struct step best = best_step(list, without);
     print_best(best);
-    struct windowfloor_job_answer cut = run_list(WINDOWFLOOR_KIND_CUT, list, best, images);
+    if (has_blocks(list)) {
+        uint64_t total = run_list(WINDOWFLOOR_KIND_FLOOR, list, best, images, floors).total;
+        print_floors(floors, list->ended + 1, total);
+    }
+    struct windowfloor_job_answer cut = run_list(WINDOWFLOOR_KIND_CUT, list, best, images, floors);
     printf("cut:");
     print_row(images, cut.n, cut.scale);
     if (best.family != 0)
@@ -555,8 +617,9 @@ static void plan_model(const struct model *model)
 {
     static struct job job;
     static uint32_t images[WINDOWFLOOR_JOB_IMAGES], scales[WINDOWFLOOR_JOB_SCALES];
+    static uint32_t floors[WINDOWFLOOR_JOB_BLOCKS]; /* kinds 2 and 3 leave it as it is */
     write_model(&job, model);
-    run_job(&job, images, scales);
+    run_job(&job, images, scales, floors);
     printf("%zu rows, %zu steps\n", model->rows, model->steps);
     for (size_t i = 0; i < model->rows; i++) {
         struct row row = model->row[i];

@@ -20,7 +20,7 @@ extern "C" {
 #endif
 
 /* The version of this header and of the library: CHANGELOG.md says what came with it. */
-#define WINDOWFLOOR_VERSION "3.1.0"
+#define WINDOWFLOOR_VERSION "4.0.0"
 
 /* Limits: unsigned constants. */
 #define WINDOWFLOOR_LIMIT 1000000000u     /* the greatest capacity, parameter, scale and table entry */
@@ -30,6 +30,7 @@ extern "C" {
 #define WINDOWFLOOR_MOST_SIZES 2048u      /* sizes of a job or of a sweep, coefficients of all rows */
 #define WINDOWFLOOR_MOST_COUNT 65535u     /* copies of a size; the least is 1 */
 #define WINDOWFLOOR_MOST_ROWS 64u         /* rows of a job of kind 3 */
+#define WINDOWFLOOR_MOST_BLOCKS 64u       /* blocks of a job of kind 1 */
 #define WINDOWFLOOR_MOST_STEPS 8u         /* steps of a job */
 #define WINDOWFLOOR_MOST_JOB_BYTES 65535u /* bytes of a job */
 #define WINDOWFLOOR_MOST_SPAN 4095u       /* high - low of a sweep */
@@ -37,10 +38,11 @@ extern "C" {
 #define WINDOWFLOOR_JOB_WORKING 2048u     /* least places of a job's working buffer */
 #define WINDOWFLOOR_JOB_LIST 2047u        /* least places of a job's list buffer */
 #define WINDOWFLOOR_JOB_SCALES 64u        /* least places of a job's buffer for scales */
+#define WINDOWFLOOR_JOB_BLOCKS 64u        /* least places of a job's buffer for block floors */
 
 /* The bytes of a job: fields of a tag, a two-byte length and a value. Tags 1, 2, 3 once each in this
- * order, in kind 1 a tag 7 right behind them or none, then 0 to 8 steps; in kind 3 tag 1, then 1 to 64 rows
- * (tag 6), then the steps. Numbers are unsigned, high byte first. */
+ * order, in kind 1 then a tag 7 or none and a tag 8 or none, then 0 to 8 steps; in kind 3 tag 1, then 1 to
+ * 64 rows (tag 6), then the steps. Numbers are unsigned, high byte first. */
 enum {
     WINDOWFLOOR_TAG_KIND = 1,     /* length 1: one of the kinds below */
     WINDOWFLOOR_TAG_CAPACITY = 2, /* length 4 */
@@ -49,6 +51,7 @@ enum {
     WINDOWFLOOR_TAG_TABLE = 5,    /* length 8 to 8,192, a multiple of 4: a step: its entries */
     WINDOWFLOOR_TAG_ROW = 6,      /* length 4 or more, a multiple of 4: right side, coefficients */
     WINDOWFLOOR_TAG_COUNTS = 7,   /* length 2n, n as in tag 3: counts of the sizes; without it each is 1 */
+    WINDOWFLOOR_TAG_BLOCKS = 8,   /* length 2b: the number of sizes of each of b blocks, in list order */
 
     WINDOWFLOOR_KIND_FLOOR = 1,
     WINDOWFLOOR_KIND_CUT = 2,
@@ -80,9 +83,10 @@ enum {
     WINDOWFLOOR_BAD_RANGE = 19,
     WINDOWFLOOR_NO_LEGAL_P = 20,
     WINDOWFLOOR_BAD_ROWS = 21, /* of kind 3: none, too many, or too many coefficients in all */
-    WINDOWFLOOR_COUNT_0 = 22
+    WINDOWFLOOR_COUNT_0 = 22,
+    WINDOWFLOOR_BAD_BLOCKS = 23
 };
-#define WINDOWFLOOR_LAST_REFUSAL 22u /* the greatest of them */
+#define WINDOWFLOOR_LAST_REFUSAL 23u /* the greatest of them */
 
 /* A number of refusal in words, for messages; defined for every number. */
 static inline const char *windowfloor_refusal_text(uint64_t number)
@@ -110,7 +114,8 @@ static inline const char *windowfloor_refusal_text(uint64_t number)
         "the range of p is empty or too wide",
         "no p of the range is legal with a scale within the limit",
         "a job of rows has no row, too many rows, or too many coefficients",
-        "a count is 0"
+        "a count is 0",
+        "a block has no sizes, there are too many blocks, or they do not add up to the sizes"
     };
     return number < sizeof texts / sizeof *texts ? texts[number] : "unknown number of refusal";
 }
@@ -141,16 +146,21 @@ struct windowfloor_table_answer windowfloor_table_check(const uint32_t *table, s
                                                         uint32_t *list, size_t list_places);
 
 /* A job: the sizes taken through its steps, for a floor or a cut; in kind 3 each row's coefficients, for a
- * cut of each row. In kind 1 each size stands for as many copies as its count says. The buffers have at
- * least the places named above, whatever the kind.
- * Refusals, in order: 12, 7; for each field 13, 14, 15; then 16, 21; then 1, 17, 22; then for each step 2,
- * 3, 4 of a family, or 18, 8, 9, 10, 11 of a table. In kind 3 all from 1 on is asked of row 1, then of row
- * 2, and so on.
+ * cut of each row. In kind 1 each size stands for as many copies as its count says, and tag 8 divides the
+ * sizes into blocks that share no windows; all copies of a size are in its block. The buffers have at least
+ * the places named above, whatever the kind.
+ * Refusals, in order: 12, 7; for each field 13, 14, 15; then 16, 21; then 1, 17, 22, 23; then for each step
+ * 2, 3, 4 of a family, or 18, 8, 9, 10, 11 of a table. In kind 3 all from 1 on is asked of row 1, then of
+ * row 2, and so on.
  * Accepted: the first n places of `images` hold the images, one for each size whatever its count, those of
  * a row behind those of the row before. In kind 3 the first places of `scales`, one for each row, hold the
- * right sides of the cuts. A refusal leaves `images` and `scales` as they were, and kinds 1 and 2 leave
- * `scales`. `list` is written for 11 alone, as in the table check. Afterwards `working` may hold
- * anything. */
+ * right sides of the cuts. With tag 8 the first places of `blocks`, one for each block, hold the block
+ * floors: of each block the sum of count times image, divided by `scale` and rounded up. Their sum, `total`,
+ * is never above the windows of an assignment that keeps the blocks separate, so that no window has copies
+ * of two; and `floor` is never above `total`.
+ * A refusal leaves `images`, `scales` and `blocks` as they were; kinds 1 and 2 leave `scales`, and all jobs
+ * without tag 8 leave `blocks`. `list` is written for 11 alone, as in the table check. Afterwards `working`
+ * may hold anything. */
 struct windowfloor_job_answer {
     uint64_t number;
     uint64_t n;      /* the number of sizes, or of the coefficients of all rows */
@@ -160,13 +170,15 @@ struct windowfloor_job_answer {
     uint64_t step;   /* the place, 1 to 8, of the step that is refused */
     uint64_t length; /* at 11, the number of sizes in `list` */
     uint64_t row;    /* in kind 3, the place, 1 to 64, of the row that is refused */
+    uint64_t total;  /* the sum of the block floors; without tag 8 it is `floor`, so 0 for cuts */
 };
 
 struct windowfloor_job_answer windowfloor_job(const uint8_t *job, size_t bytes,
                                               uint32_t *images, size_t images_places,
                                               uint64_t *working, size_t working_places,
                                               uint32_t *list, size_t list_places,
-                                              uint32_t *scales, size_t scales_places);
+                                              uint32_t *scales, size_t scales_places,
+                                              uint32_t *blocks, size_t blocks_places);
 
 /* The largest floor that one step of a family (1 to 5) gives, over all p from low to high that are
  * legal with a scale within the limit, and the least p that gives it. `counts` has one count for each size,

@@ -1,6 +1,6 @@
 /* Compares the library with the reference on random inputs, on the largest, and on jobs with fields of
- * many lengths and with counts in many places: every field of the answers, every place of the buffers, and
- * the places before and behind them.
+ * many lengths and with counts and blocks in many places: every field of the answers, every place of the
+ * buffers, and the places before and behind them.
  *
  *     compare [SEED [ROUNDS]]
  *
@@ -21,20 +21,23 @@ enum { MOST_PRINTED = 16384 }; /* bytes of an input: all of a sweep */
 
 /* Jobs whose fourth byte is 3 are counted as rows; numbers that name a row are counted once more. For 18,
  * which goes before 8 to 11, what the table check says of the table is counted, for each kind. Refusals for
- * a field of tag 7 are counted for each kind. Jobs with counts are counted once more, and so are jobs and
- * sweeps with a count of 0. For 22, and for 6 where there are not as many counts as sizes, what the same
- * input would give with ones is counted. */
+ * a field of tag 7 or 8 are counted for each kind. Jobs with counts are counted once more, and so are jobs
+ * and sweeps with a count of 0; and jobs with blocks, and with wrong ones. For 22, and for 6 where there are
+ * not as many counts as sizes, what the same input would give with ones is counted; for 23, what the job
+ * would give without its tag 8. */
 enum tally {
     IMAGE, TABLE, JOB, ROWS, SWEEP, OPERATIONS,
     ROW_1 = OPERATIONS, LATER_ROW, BEHIND_18, LAST_BEHIND_18 = BEHIND_18 + 2,
-    AT_TAG_7, LAST_AT_TAG_7 = AT_TAG_7 + 3, COUNTED_JOB, COUNT_0_IN_JOB, COUNT_0_IN_SWEEP,
-    BEHIND_22_OF_JOB, BEHIND_22_OF_SWEEP, FEWER_COUNTS, MORE_COUNTS, TALLIES
+    AT_TAG_7, LAST_AT_TAG_7 = AT_TAG_7 + 3, AT_TAG_8, LAST_AT_TAG_8 = AT_TAG_8 + 3,
+    COUNTED_JOB, COUNT_0_IN_JOB, COUNT_0_IN_SWEEP, BEHIND_22_OF_JOB, BEHIND_22_OF_SWEEP, FEWER_COUNTS,
+    MORE_COUNTS, JOB_IN_BLOCKS, WRONG_BLOCKS, BEHIND_23, TALLIES
 };
 
 static const char *const names[TALLIES] = {
     "image", "table check", "job", "job of rows", "sweep", "  in row 1", "  later row",
-    "  floor", "  cut", "  rows", "  floor", "  cut", "  rows", "  no kind", "  all", "  job", "  sweep",
-    "  job", "  sweep", "  fewer", "  more",
+    "  floor", "  cut", "  rows", "  floor", "  cut", "  rows", "  no kind",
+    "  floor", "  cut", "  rows", "  no kind", "  all", "  job", "  sweep",
+    "  job", "  sweep", "  fewer", "  more", "  all", "  wrong", "  job",
 };
 
 /* Accepted jobs: those of several rows by what the steps make of the right sides. */
@@ -46,11 +49,11 @@ static const char *const shape_names[SHAPES] = {
 };
 
 /* Quotients that are rounded up, by what their remainder is. */
-enum quotient { OF_FAMILY_4, OF_FAMILY_6, OF_FAMILY_7, OF_JOB, OF_SWEEP, QUOTIENTS };
+enum quotient { OF_FAMILY_4, OF_FAMILY_6, OF_FAMILY_7, OF_JOB, OF_BLOCK, OF_SWEEP, QUOTIENTS };
 enum remainder { NONE, ONE, ONE_SHORT, ANOTHER, REMAINDERS };
 
 static const char *const quotient_names[QUOTIENTS] = {
-    "  family 4 ", "  family 6 ", "  family 7 ", "  floor    ", "  sweep    ",
+    "  family 4 ", "  family 6 ", "  family 7 ", "  floor    ", "  block    ", "  sweep    ",
 };
 static const char *const remainder_names[REMAINDERS] = {"0", "1", "divisor less 1", "another"};
 
@@ -60,6 +63,34 @@ enum sort { NO_SIZE, ALL_1, OVER_255, COUNT_65535, SUM_OVER_32_BITS, GREATEST_SU
 static const char *const sort_names[SORTS] = {
     "no size", "all 1", "over 255", "65,535", "sum over 32 bits", "greatest sum",
 };
+
+/* Accepted jobs with blocks. One can be of several sorts; the total is told of two blocks or more. */
+enum block_sort {
+    NO_BLOCK, ONE_BLOCK, BLOCKS_64, SIZES_OVER_255, COUNTS_OVER_255, WITH_TABLE, FLOOR_0,
+    TOTAL_IS_FLOOR, TOTAL_OVER_FLOOR, BLOCK_SORTS
+};
+
+static const char *const block_sort_names[BLOCK_SORTS] = {
+    "none", "one", "64", "of over 255 sizes", "counts over 255", "a table", "a floor of 0",
+    "total as floor", "total over floor",
+};
+
+/* Jobs refused with 23, by what is wrong with their blocks: what is named, and nothing else. */
+enum wrong {
+    BLOCK_OF_0, OVER_64_BLOCKS, NO_BLOCKS, SUM_UNDER_N, SUM_OVER_N, SUM_OVER_BY_65536, SEVERAL, WRONGS,
+    RIGHT = WRONGS
+};
+
+static const char *const wrong_names[WRONGS] = {
+    "a block of 0", "over 64", "none", "sum under n", "sum over n", "over by 65,536", "several",
+};
+
+/* Jobs refused with 7 for one buffer alone; if it is that of the blocks, by kind. */
+enum buffer { IMAGES, WORKING, LIST, SCALES, BLOCKS, BUFFERS };
+enum kind { KIND_FLOOR, KIND_CUT, KIND_ROWS, NO_KIND, KINDS };
+
+static const char *const buffer_names[BUFFERS] = {"images", "working", "list", "scales", "blocks"};
+static const char *const kind_names[KINDS] = {"floor", "cut", "rows", "no kind"};
 
 /* Thresholds whose 2 * p is the capacity + 1, by where they are accepted, and images that are refused with a
  * p one over. */
@@ -72,10 +103,13 @@ static const char *const half_names[HALVES] = {
 /* What was seen: how often each number came from each operation, and from how many steps a job, or a job
  * of rows, got through, or at which it was refused. */
 static unsigned long seen[TALLIES][NUMBERS];
+static unsigned long before_rounds[OPERATIONS][NUMBERS]; /* of seen, when the random inputs begin */
 static unsigned long accepted_steps[2][STEPS], refused_step[2][STEPS];
 static unsigned long accepted_shapes[SHAPES];
 static unsigned long rounded[QUOTIENTS][REMAINDERS];
 static unsigned long counted[2][SORTS]; /* jobs, sweeps */
+static unsigned long in_blocks[BLOCK_SORTS], wrong_blocks[WRONGS];
+static unsigned long short_buffers[BUFFERS], short_blocks[KINDS];
 static unsigned long halves[HALVES];
 
 /* Inputs lie right before memory that cannot be read, so that a read past their end is a crash. Two edges
@@ -106,6 +140,10 @@ enum { MARGIN = 16, ROOM_PLACES = 2 * MARGIN + 2048 + 32, PATTERN_BYTES = 8 * 2 
 struct lent {
     size_t width, places;
     uint64_t library[ROOM_PLACES], reference[ROOM_PLACES];
+};
+
+struct lent_to_job {
+    struct lent images, working, list, scales, blocks;
 };
 
 static uint64_t pattern[PATTERN_BYTES / 8];
@@ -261,9 +299,19 @@ static void compare_table(void)
           in.entries, bytes);
 }
 
+static enum kind kind_of(const struct job_input *in)
+{
+    switch (in->length > 3 ? in->bytes[3] : 0) {
+    case WINDOWFLOOR_KIND_FLOOR: return KIND_FLOOR;
+    case WINDOWFLOOR_KIND_CUT: return KIND_CUT;
+    case WINDOWFLOOR_KIND_ROWS: return KIND_ROWS;
+    default: return NO_KIND;
+    }
+}
+
 static int is_rows(const struct job_input *in)
 {
-    return in->length > 3 && in->bytes[3] == WINDOWFLOOR_KIND_ROWS;
+    return kind_of(in) == KIND_ROWS;
 }
 
 static size_t value_bytes(const struct job_input *in, size_t at)
@@ -324,66 +372,95 @@ static void count_shape(const struct job_input *in, const uint32_t *scales)
     accepted_shapes[MOST_ROWS] += rows == WINDOWFLOOR_MOST_ROWS;
 }
 
-/* Where the counts of a job start whose fields are in order; 0 if it has none. */
-static size_t counts_at(const struct job_input *in)
+/* Where the field of a tag starts in a job whose fields are in order; 0 if it has none. Tag 1, which
+ * starts there, is not asked for. */
+static size_t field_at(const struct job_input *in, uint8_t tag)
 {
     for (size_t at = 0; at < in->length; at += 3 + value_bytes(in, at))
-        if (in->bytes[at] == WINDOWFLOOR_TAG_COUNTS)
+        if (in->bytes[at] == tag)
             return at;
     return 0;
 }
 
-static size_t read_counts(const struct job_input *in, size_t at, uint16_t *counts)
+/* The numbers of two bytes of the field that starts there. */
+static size_t read_numbers(const struct job_input *in, size_t at, uint16_t *numbers)
 {
     size_t n = value_bytes(in, at) / 2;
     for (size_t i = 0; i < n; i++)
-        counts[i] = (uint16_t)(in->bytes[at + 3 + 2 * i] * 256 + in->bytes[at + 4 + 2 * i]);
+        numbers[i] = (uint16_t)(in->bytes[at + 3 + 2 * i] * 256 + in->bytes[at + 4 + 2 * i]);
     return n;
 }
 
-static int some_count(const uint16_t *counts, size_t n, uint16_t least, uint16_t most)
+/* Counts, or numbers of sizes of blocks. */
+static int some_number(const uint16_t *numbers, size_t n, uint16_t least, uint16_t most)
 {
     for (size_t i = 0; i < n; i++)
-        if (counts[i] >= least && counts[i] <= most)
+        if (numbers[i] >= least && numbers[i] <= most)
             return 1;
     return 0;
+}
+
+/* The counts of a floor job with n sizes, whose fields are in order. */
+static void read_counts(const struct job_input *in, size_t n, uint16_t *counts)
+{
+    size_t at = field_at(in, WINDOWFLOOR_TAG_COUNTS);
+    for (size_t i = 0; i < n; i++)
+        counts[i] = 1;
+    if (at > 0)
+        read_numbers(in, at, counts);
 }
 
 static void count_sorts(unsigned long *sorts, const uint16_t *counts, size_t n, uint64_t sum)
 {
     sorts[NO_SIZE] += n == 0;
-    sorts[ALL_1] += n > 0 && !some_count(counts, n, 2, WINDOWFLOOR_MOST_COUNT);
-    sorts[OVER_255] += some_count(counts, n, 256, WINDOWFLOOR_MOST_COUNT);
-    sorts[COUNT_65535] += some_count(counts, n, WINDOWFLOOR_MOST_COUNT, WINDOWFLOOR_MOST_COUNT);
+    sorts[ALL_1] += n > 0 && !some_number(counts, n, 2, WINDOWFLOOR_MOST_COUNT);
+    sorts[OVER_255] += some_number(counts, n, 256, WINDOWFLOOR_MOST_COUNT);
+    sorts[COUNT_65535] += some_number(counts, n, WINDOWFLOOR_MOST_COUNT, WINDOWFLOOR_MOST_COUNT);
     sorts[SUM_OVER_32_BITS] += sum > UINT32_MAX;
     sorts[GREATEST_SUM] +=
         sum == (uint64_t)WINDOWFLOOR_MOST_SIZES * WINDOWFLOOR_MOST_COUNT * WINDOWFLOOR_LIMIT;
 }
 
-/* What the job's number would be if each of its counts were 1. */
+/* The number that the reference gives for a job. */
+static uint64_t number_of(const uint8_t *job, size_t bytes)
+{
+    static uint64_t working[WINDOWFLOOR_JOB_WORKING];
+    static uint32_t images[WINDOWFLOOR_JOB_IMAGES], list[WINDOWFLOOR_JOB_LIST],
+        scales[WINDOWFLOOR_JOB_SCALES], blocks[WINDOWFLOOR_JOB_BLOCKS];
+    return reference_job(job, bytes, images, WINDOWFLOOR_JOB_IMAGES, working, WINDOWFLOOR_JOB_WORKING,
+                         list, WINDOWFLOOR_JOB_LIST, scales, WINDOWFLOOR_JOB_SCALES, blocks,
+                         WINDOWFLOOR_JOB_BLOCKS).number;
+}
+
+/* What the job's number would be if each of its counts, which start there, were 1. */
 static uint64_t job_with_ones(const struct job_input *in, size_t at)
 {
     static uint8_t bytes[ROOM_BYTES];
-    static uint64_t working[WINDOWFLOOR_JOB_WORKING];
-    static uint32_t images[WINDOWFLOOR_JOB_IMAGES], list[WINDOWFLOOR_JOB_LIST],
-        scales[WINDOWFLOOR_JOB_SCALES];
     memcpy(bytes, in->bytes, in->length);
     for (size_t i = 0; i < value_bytes(in, at); i++)
         bytes[at + 3 + i] = i % 2;
-    return reference_job(bytes, in->length, images, WINDOWFLOOR_JOB_IMAGES, working,
-                         WINDOWFLOOR_JOB_WORKING, list, WINDOWFLOOR_JOB_LIST, scales,
-                         WINDOWFLOOR_JOB_SCALES).number;
+    return number_of(bytes, in->length);
+}
+
+/* What it would be without the field that starts there. */
+static uint64_t job_without(const struct job_input *in, size_t at)
+{
+    static uint8_t bytes[ROOM_BYTES];
+    size_t end = at + 3 + value_bytes(in, at);
+    memcpy(bytes, in->bytes, at);
+    memcpy(bytes + at, in->bytes + end, in->length - end);
+    return number_of(bytes, in->length - (end - at));
 }
 
 static void count_counted(const struct job_input *in, const struct windowfloor_job_answer *answer)
 {
     static uint16_t counts[WINDOWFLOOR_MOST_SIZES];
-    size_t at = counts_at(in);
+    size_t at = field_at(in, WINDOWFLOOR_TAG_COUNTS);
     if (at == 0)
         return;
-    size_t n = read_counts(in, at, counts);
+    size_t n = read_numbers(in, at, counts);
     seen[COUNTED_JOB][answer->number]++;
-    if (some_count(counts, n, 0, 0))
+    if (some_number(counts, n, 0, 0))
         seen[COUNT_0_IN_JOB][answer->number]++;
     if (answer->number == WINDOWFLOOR_COUNT_0)
         seen[BEHIND_22_OF_JOB][job_with_ones(in, at)]++;
@@ -391,25 +468,83 @@ static void count_counted(const struct job_input *in, const struct windowfloor_j
         count_sorts(counted[0], counts, n, answer->sum);
 }
 
+static enum wrong wrong_of(const uint16_t *blocks, size_t count, size_t n)
+{
+    size_t sum = 0;
+    for (size_t i = 0; i < count; i++)
+        sum += blocks[i];
+    int empty = some_number(blocks, count, 0, 0), many = count > WINDOWFLOOR_MOST_BLOCKS;
+    if (empty + many + (sum != n) > 1)
+        return SEVERAL;
+    if (empty)
+        return BLOCK_OF_0;
+    if (many)
+        return OVER_64_BLOCKS;
+    if (sum <= n)
+        return sum == n ? RIGHT : count == 0 ? NO_BLOCKS : SUM_UNDER_N;
+    return (sum - n) % 65536 == 0 ? SUM_OVER_BY_65536 : SUM_OVER_N;
+}
+
+static void count_blocks(const struct job_input *in, uint64_t number)
+{
+    static uint16_t blocks[ROOM_BYTES / 2];
+    size_t at = field_at(in, WINDOWFLOOR_TAG_BLOCKS);
+    if (at == 0)
+        return;
+    size_t count = read_numbers(in, at, blocks);
+    enum wrong wrong = wrong_of(blocks, count, value_bytes(in, field_at(in, WINDOWFLOOR_TAG_SIZES)) / 4);
+    seen[JOB_IN_BLOCKS][number]++;
+    if (number == WINDOWFLOOR_BAD_BLOCKS)
+        seen[BEHIND_23][job_without(in, at)]++;
+    if (wrong == RIGHT)
+        return;
+    seen[WRONG_BLOCKS][number]++;
+    wrong_blocks[wrong] += number == WINDOWFLOOR_BAD_BLOCKS;
+}
+
 static void count_refused_field(const struct job_input *in, uint64_t number)
 {
-    unsigned kind = in->length > 3 ? in->bytes[3] : 0;
-    int known = kind >= WINDOWFLOOR_KIND_FLOOR && kind <= WINDOWFLOOR_KIND_ROWS;
-    if (reference_refused_tag(in->bytes, in->length) == WINDOWFLOOR_TAG_COUNTS)
-        seen[known ? AT_TAG_7 + kind - WINDOWFLOOR_KIND_FLOOR : LAST_AT_TAG_7][number]++;
+    unsigned tag = reference_refused_tag(in->bytes, in->length);
+    if (tag == WINDOWFLOOR_TAG_COUNTS)
+        seen[AT_TAG_7 + kind_of(in)][number]++;
+    if (tag == WINDOWFLOOR_TAG_BLOCKS)
+        seen[AT_TAG_8 + kind_of(in)][number]++;
+}
+
+static void count_short_buffer(const struct job_input *in)
+{
+    const int is_short[BUFFERS] = {
+        in->images_places < WINDOWFLOOR_JOB_IMAGES, in->working_places < WINDOWFLOOR_JOB_WORKING,
+        in->list_places < WINDOWFLOOR_JOB_LIST, in->scales_places < WINDOWFLOOR_JOB_SCALES,
+        in->blocks_places < WINDOWFLOOR_JOB_BLOCKS,
+    };
+    int all = 0, last = 0;
+    for (int buffer = 0; buffer < BUFFERS; buffer++) {
+        all += is_short[buffer];
+        last = is_short[buffer] ? buffer : last;
+    }
+    if (all > 1)
+        return;
+    short_buffers[last]++;
+    if (last == BLOCKS)
+        short_blocks[kind_of(in)]++;
 }
 
 /* Refusals of the whole job or of its buffers leave its fields unread. */
 static void count_fields(const struct job_input *in, const struct windowfloor_job_answer *answer)
 {
     switch (answer->number) {
-    case WINDOWFLOOR_JOB_TOO_LONG: case WINDOWFLOOR_SHORT_BUFFER:
+    case WINDOWFLOOR_JOB_TOO_LONG:
+        break;
+    case WINDOWFLOOR_SHORT_BUFFER:
+        count_short_buffer(in);
         break;
     case WINDOWFLOOR_PAST_THE_END: case WINDOWFLOOR_BAD_TAG: case WINDOWFLOOR_BAD_LENGTH:
         count_refused_field(in, answer->number);
         break;
     default:
         count_counted(in, answer);
+        count_blocks(in, answer->number);
     }
 }
 
@@ -447,13 +582,57 @@ static void count_halves(const struct job_input *in)
     }
 }
 
-static void count_accepted(const struct job_input *in, const struct windowfloor_job_answer *answer,
-                           const uint32_t *scales)
+/* A block: its images and counts, and its floor. */
+static void count_block(const uint32_t *images, const uint16_t *counts, size_t n, uint64_t scale,
+                        uint32_t floor)
 {
-    count_shape(in, scales);
+    uint64_t sum = 0;
+    for (size_t i = 0; i < n; i++)
+        sum += (uint64_t)counts[i] * images[i];
+    count_rounded(OF_BLOCK, sum, scale);
+    in_blocks[FLOOR_0] += floor == 0;
+    in_blocks[SIZES_OVER_255] += n > 255;
+}
+
+static void count_each_block(const uint16_t *blocks, size_t count, struct lent_to_job *lent,
+                             const uint16_t *counts, uint64_t scale)
+{
+    const uint32_t *images = library_places(&lent->images), *floors = library_places(&lent->blocks);
+    for (size_t i = 0; i < count; i++) {
+        count_block(images, counts, blocks[i], scale, floors[i]);
+        images += blocks[i];
+        counts += blocks[i];
+    }
+}
+
+static void count_accepted_blocks(const struct job_input *in, const struct windowfloor_job_answer *answer,
+                                  struct lent_to_job *lent)
+{
+    static uint16_t blocks[WINDOWFLOOR_MOST_BLOCKS], counts[WINDOWFLOOR_MOST_SIZES];
+    size_t at = field_at(in, WINDOWFLOOR_TAG_BLOCKS);
+    if (at == 0)
+        return;
+    size_t count = read_numbers(in, at, blocks);
+    read_counts(in, answer->n, counts);
+    count_each_block(blocks, count, lent, counts, answer->scale);
+    in_blocks[NO_BLOCK] += count == 0;
+    in_blocks[ONE_BLOCK] += count == 1;
+    in_blocks[BLOCKS_64] += count == 64;
+    in_blocks[COUNTS_OVER_255] += some_number(counts, answer->n, 256, WINDOWFLOOR_MOST_COUNT);
+    in_blocks[WITH_TABLE] += field_at(in, WINDOWFLOOR_TAG_TABLE) > 0;
+    in_blocks[TOTAL_IS_FLOOR] += count > 1 && answer->total == answer->floor;
+    in_blocks[TOTAL_OVER_FLOOR] += count > 1 && answer->total > answer->floor;
+}
+
+static void count_accepted(const struct job_input *in, const struct windowfloor_job_answer *answer,
+                           struct lent_to_job *lent)
+{
+    count_shape(in, library_places(&lent->scales));
     count_halves(in);
-    if (in->bytes[3] == WINDOWFLOOR_KIND_FLOOR)
-        count_rounded(OF_JOB, answer->sum, answer->scale);
+    if (kind_of(in) != KIND_FLOOR)
+        return;
+    count_rounded(OF_JOB, answer->sum, answer->scale);
+    count_accepted_blocks(in, answer, lent);
 }
 
 /* What the table check says of the table that this step is. */
@@ -473,37 +652,55 @@ static void count_refusal(const struct job_input *in, const struct windowfloor_j
     if (answer->row > 0)
         seen[answer->row == 1 ? ROW_1 : LATER_ROW][answer->number]++;
     if (answer->number == WINDOWFLOOR_OTHER_CAPACITY)
-        seen[BEHIND_18 + in->bytes[3] - WINDOWFLOOR_KIND_FLOOR][check_step(in, answer->step)]++;
+        seen[BEHIND_18 + kind_of(in)][check_step(in, answer->step)]++;
+}
+
+static void lend_to_job(struct lent_to_job *lent, const struct job_input *in)
+{
+    lend(&lent->images, sizeof(uint32_t), in->images_places);
+    lend(&lent->working, sizeof(uint64_t), in->working_places);
+    lend(&lent->list, sizeof(uint32_t), in->list_places);
+    lend(&lent->scales, sizeof(uint32_t), in->scales_places);
+    lend(&lent->blocks, sizeof(uint32_t), in->blocks_places);
+}
+
+static int same_after_job(const struct lent_to_job *lent)
+{
+    return same_buffers(&lent->images) && same_margins(&lent->working) && same_buffers(&lent->list)
+        && same_buffers(&lent->scales) && same_buffers(&lent->blocks);
+}
+
+static void count_job(const struct job_input *in, const struct windowfloor_job_answer *answer,
+                      struct lent_to_job *lent)
+{
+    count_step(in, answer);
+    count_fields(in, answer);
+    if (answer->number == 0)
+        count_accepted(in, answer, lent);
+    else
+        count_refusal(in, answer);
 }
 
 static void compare_job(const struct job_input *in)
 {
-    static struct lent images, working, list, scales;
+    static struct lent_to_job lent;
     const uint8_t *job = at_edge(first_edge, in->bytes, in->length);
-    lend(&images, sizeof(uint32_t), in->images_places);
-    lend(&working, sizeof(uint64_t), in->working_places);
-    lend(&list, sizeof(uint32_t), in->list_places);
-    lend(&scales, sizeof(uint32_t), in->scales_places);
+    lend_to_job(&lent, in);
     struct windowfloor_job_answer library =
-        windowfloor_job(job, in->length, library_places(&images), in->images_places,
-                        library_places(&working), in->working_places,
-                        library_places(&list), in->list_places,
-                        library_places(&scales), in->scales_places);
+        windowfloor_job(job, in->length, library_places(&lent.images), in->images_places,
+                        library_places(&lent.working), in->working_places,
+                        library_places(&lent.list), in->list_places,
+                        library_places(&lent.scales), in->scales_places,
+                        library_places(&lent.blocks), in->blocks_places);
     struct windowfloor_job_answer reference =
-        reference_job(job, in->length, reference_places(&images), in->images_places,
-                      reference_places(&working), in->working_places,
-                      reference_places(&list), in->list_places,
-                      reference_places(&scales), in->scales_places);
+        reference_job(job, in->length, reference_places(&lent.images), in->images_places,
+                      reference_places(&lent.working), in->working_places,
+                      reference_places(&lent.list), in->list_places,
+                      reference_places(&lent.scales), in->scales_places,
+                      reference_places(&lent.blocks), in->blocks_places);
     judge(is_rows(in) ? ROWS : JOB, &library, &reference, sizeof library,
-          same_buffers(&images) && same_margins(&working) && same_buffers(&list)
-              && same_buffers(&scales) && memcmp(job, in->bytes, in->length) == 0,
-          in->bytes, in->length);
-    count_step(in, &library);
-    count_fields(in, &library);
-    if (library.number == 0)
-        count_accepted(in, &library, library_places(&scales));
-    else
-        count_refusal(in, &library);
+          same_after_job(&lent) && memcmp(job, in->bytes, in->length) == 0, in->bytes, in->length);
+    count_job(in, &library, &lent);
 }
 
 /* Of the floor that a sweep has found: its quotient, its counts, and whether its p is a threshold at half. */
@@ -529,7 +726,7 @@ static uint64_t sweep_with_ones(const struct sweep_input *in)
 
 static void count_refused_sweep(const struct sweep_input *in, uint64_t number)
 {
-    if (some_count(in->counts, in->counts_length, 0, 0))
+    if (some_number(in->counts, in->counts_length, 0, 0))
         seen[COUNT_0_IN_SWEEP][number]++;
     if (number == WINDOWFLOOR_COUNT_0)
         seen[BEHIND_22_OF_SWEEP][sweep_with_ones(in)]++;
@@ -560,7 +757,7 @@ static void compare_sweep(const struct sweep_input *in)
 static void compare_lengths(unsigned kind, size_t from, size_t to)
 {
     static struct job_input job;
-    for (unsigned tag = WINDOWFLOOR_TAG_KIND; tag <= WINDOWFLOOR_TAG_COUNTS; tag++)
+    for (unsigned tag = WINDOWFLOOR_TAG_KIND; tag <= WINDOWFLOOR_TAG_BLOCKS; tag++)
         for (size_t length = from; length <= to; length++) {
             job_of_length(&job, kind, tag, length);
             compare_job(&job);
@@ -594,7 +791,7 @@ static void compare_counts(unsigned kind, size_t n)
     static struct job_input job;
     for (size_t i = 0; i < sizeof orders / sizeof *orders; i++)
         for (size_t k = 0; k < sizeof lengths / sizeof *lengths; k++) {
-            job_of_counts(&job, orders[i], kind, n, lengths[k]);
+            job_of_tags(&job, orders[i], kind, n, lengths[k], 0);
             compare_job(&job);
             job.length--;
             compare_job(&job);
@@ -608,6 +805,79 @@ static void compare_all_counts(void)
         compare_counts(WINDOWFLOOR_KIND_FLOOR, numbers[i]);
     for (unsigned kind = 0; kind < 5; kind++)
         compare_counts(kind, 2);
+}
+
+/* Jobs of these orders of tags, with n and nearly n blocks of one size each, whole and cut. */
+static void compare_orders(const char *const *orders, unsigned kind, size_t n)
+{
+    const size_t less = n > 0;
+    const size_t lengths[] = {0, 1, 2 * (n - less), 2 * n - less, 2 * n, 2 * n + 1, 2 * (n + 1)};
+    static struct job_input job;
+    for (; *orders != NULL; orders++)
+        for (size_t k = 0; k < sizeof lengths / sizeof *lengths; k++) {
+            job_of_tags(&job, *orders, kind, n, 2 * n, lengths[k]);
+            compare_job(&job);
+            job.length--;
+            compare_job(&job);
+        }
+}
+
+/* Fields of tag 8 in their place and out of it. */
+static void compare_places_of_blocks(void)
+{
+    static const char *const in_place[] = {"1238", "12378", "12384", "123784", NULL};
+    static const char *const out_of_place[] = {"12388", "123788", "12387", "12348", "123748", "12838",
+                                               "1283",  "1823",   "8123",  "128",   "18",     "8",
+                                               "168",   "1684",   "1648",  "186",   NULL};
+    static const size_t numbers[] = {0, 1, 63, 64, 65, 127, 128, 2048};
+    for (size_t i = 0; i < sizeof numbers / sizeof *numbers; i++)
+        compare_orders(in_place, WINDOWFLOOR_KIND_FLOOR, numbers[i]);
+    for (unsigned kind = 0; kind < 5; kind++) {
+        compare_orders(in_place, kind, 2);
+        compare_orders(out_of_place, kind, 2);
+    }
+}
+
+/* Numbers of sizes that add up to n, or do not. */
+static void compare_numbers_of_blocks(void)
+{
+    static const struct { size_t n, count; uint16_t blocks[3]; } lists[] = {
+        {0, 1, {0}},          {0, 1, {1}},        {0, 2, {65535, 1}},      {0, 2, {32768, 32768}},
+        {1, 2, {65535, 2}},   {5, 3, {2, 2, 1}},  {5, 3, {0, 2, 3}},       {5, 3, {2, 0, 3}},
+        {5, 3, {2, 3, 0}},    {5, 2, {2, 2}},     {5, 2, {2, 4}},          {5, 3, {65535, 5, 1}},
+        {5, 2, {4, 0}},       {256, 1, {256}},    {256, 1, {1}},           {256, 2, {255, 1}},
+        {2048, 1, {2048}},    {2048, 1, {8}},     {2048, 2, {2047, 1}},    {2048, 1, {2047}},
+        {2048, 2, {1, 2048}}, {2048, 1, {65535}}, {2048, 2, {1792, 256}},  {2048, 2, {65535, 2049}},
+    };
+    static struct job_input job;
+    for (size_t i = 0; i < sizeof lists / sizeof *lists; i++) {
+        job_of_blocks(&job, lists[i].n, lists[i].blocks, lists[i].count);
+        compare_job(&job);
+    }
+}
+
+/* As many blocks as a job has bytes for. */
+static void compare_longest_blocks(void)
+{
+    static struct job_input job;
+    for (size_t length = 65516; length <= 65519; length++) {
+        job_of_tags(&job, "1238", WINDOWFLOOR_KIND_FLOOR, 0, 0, length);
+        compare_job(&job);
+    }
+}
+
+static void compare_largest_blocks(void)
+{
+    static const size_t numbers[] = {1, 2, 63, 64};
+    static struct job_input job;
+    largest_job_of_blocks(&job);
+    compare_job(&job);
+    longest_chain_of_blocks(&job);
+    compare_job(&job);
+    for (size_t i = 0; i < sizeof numbers / sizeof *numbers; i++) {
+        greatest_sum(&job, numbers[i]);
+        compare_job(&job);
+    }
 }
 
 static void compare_largest(void)
@@ -629,7 +899,7 @@ static void compare_largest(void)
     }
     longest_chain_of_rows(&job);
     compare_job(&job);
-    greatest_sum(&job);
+    greatest_sum(&job, 0);
     compare_job(&job);
     for (uint8_t family = 1; family <= WINDOWFLOOR_SWEEP_FAMILIES; family++) {
         largest_sweep(&sweep, family);
@@ -664,7 +934,8 @@ static const unsigned char due[TALLIES][NUMBERS] = {
     [IMAGE] = {[0] = 1, [1] = 1, [2] = 1, [3] = 1, [4] = 1, [5] = 1},
     [TABLE] = {[0] = 1, [6] = 1, [7] = 1, [8] = 1, [9] = 1, [10] = 1, [11] = 1},
     [JOB] = {[0] = 1, [1] = 1, [2] = 1, [3] = 1, [4] = 1, [7] = 1, [8] = 1, [9] = 1, [10] = 1,
-             [11] = 1, [12] = 1, [13] = 1, [14] = 1, [15] = 1, [16] = 1, [17] = 1, [18] = 1, [22] = 1},
+             [11] = 1, [12] = 1, [13] = 1, [14] = 1, [15] = 1, [16] = 1, [17] = 1, [18] = 1, [22] = 1,
+             [23] = 1},
     [ROWS] = {[0] = 1, [1] = 1, [2] = 1, [3] = 1, [4] = 1, [7] = 1, [8] = 1, [9] = 1, [10] = 1,
               [11] = 1, [12] = 1, [13] = 1, [14] = 1, [15] = 1, [17] = 1, [18] = 1, [21] = 1},
     [SWEEP] = {[0] = 1, [1] = 1, [2] = 1, [6] = 1, [17] = 1, [19] = 1, [20] = 1, [22] = 1},
@@ -678,6 +949,10 @@ static const unsigned char due[TALLIES][NUMBERS] = {
     [AT_TAG_7 + 1] = {[13] = 1, [14] = 1},
     [AT_TAG_7 + 2] = {[13] = 1, [14] = 1},
     [AT_TAG_7 + 3] = {[13] = 1, [14] = 1},
+    [AT_TAG_8] = {[13] = 1, [14] = 1, [15] = 1},
+    [AT_TAG_8 + 1] = {[13] = 1, [14] = 1},
+    [AT_TAG_8 + 2] = {[13] = 1, [14] = 1},
+    [AT_TAG_8 + 3] = {[13] = 1, [14] = 1},
     [COUNTED_JOB] = {[0] = 1, [1] = 1, [2] = 1, [3] = 1, [4] = 1, [8] = 1, [9] = 1, [10] = 1, [11] = 1,
                      [17] = 1, [18] = 1, [22] = 1},
     [COUNT_0_IN_JOB] = {[1] = 1, [17] = 1, [22] = 1},
@@ -686,6 +961,10 @@ static const unsigned char due[TALLIES][NUMBERS] = {
     [BEHIND_22_OF_SWEEP] = {[0] = 1, [19] = 1, [20] = 1},
     [FEWER_COUNTS] = {[0] = 1, [17] = 1, [19] = 1, [20] = 1},
     [MORE_COUNTS] = {[0] = 1, [17] = 1, [19] = 1, [20] = 1},
+    [JOB_IN_BLOCKS] = {[0] = 1, [1] = 1, [2] = 1, [3] = 1, [4] = 1, [8] = 1, [9] = 1, [10] = 1, [11] = 1,
+                       [17] = 1, [18] = 1, [22] = 1, [23] = 1},
+    [WRONG_BLOCKS] = {[1] = 1, [17] = 1, [22] = 1, [23] = 1},
+    [BEHIND_23] = {[0] = 1, [3] = 1, [4] = 1, [8] = 1, [9] = 1, [11] = 1, [18] = 1},
 };
 
 /* Prints the counts of a tally; answers its inputs. */
@@ -705,15 +984,22 @@ static unsigned long report(enum tally tally, int *lacking)
     return inputs;
 }
 
-/* Of each operation, a quarter has to be accepted. */
+/* Of the random inputs of each operation, a quarter has to be accepted. */
+static int few_accepted(enum tally operation)
+{
+    unsigned long inputs = 0, accepted = seen[operation][0] - before_rounds[operation][0];
+    for (int number = 0; number < NUMBERS; number++)
+        inputs += seen[operation][number] - before_rounds[operation][number];
+    return 4 * accepted < inputs;
+}
+
 static unsigned long report_operations(int *lacking)
 {
     unsigned long inputs = 0;
     for (enum tally operation = IMAGE; operation < OPERATIONS; operation++) {
-        unsigned long own = report(operation, lacking);
-        if (4 * seen[operation][0] < own)
+        inputs += report(operation, lacking);
+        if (few_accepted(operation))
             *lacking = printf("%s: TOO FEW accepted\n", names[operation]);
-        inputs += own;
     }
     return inputs;
 }
@@ -764,12 +1050,19 @@ static unsigned long report_all(int *lacking)
     report_tallies("tables refused with 18 by what the table check says", BEHIND_18, LAST_BEHIND_18,
                    lacking);
     report_tallies("jobs refused for a field of tag 7 by number", AT_TAG_7, LAST_AT_TAG_7, lacking);
+    report_tallies("jobs refused for a field of tag 8 by number", AT_TAG_8, LAST_AT_TAG_8, lacking);
     report_tallies("jobs with counts by number", COUNTED_JOB, COUNTED_JOB, lacking);
     report_tallies("a count of 0 by number", COUNT_0_IN_JOB, COUNT_0_IN_SWEEP, lacking);
     report_tallies("refused with 22 by the number with ones", BEHIND_22_OF_JOB, BEHIND_22_OF_SWEEP,
                    lacking);
     report_tallies("sweeps refused for their number of counts by the number with ones", FEWER_COUNTS,
                    MORE_COUNTS, lacking);
+    report_tallies("jobs with blocks by number", JOB_IN_BLOCKS, WRONG_BLOCKS, lacking);
+    report_tallies("refused with 23 by the number without tag 8", BEHIND_23, BEHIND_23, lacking);
+    report_named("refused with 23 by blocks", wrong_names, wrong_blocks, WRONGS, lacking);
+    report_named("refused with 7 for one buffer", buffer_names, short_buffers, BUFFERS, lacking);
+    report_named("  for that of the blocks", kind_names, short_blocks, KINDS, lacking);
+    report_named("accepted jobs by blocks  ", block_sort_names, in_blocks, BLOCK_SORTS, lacking);
     report_named("accepted jobs by counts  ", sort_names, counted[0], SORTS, lacking);
     report_named("accepted sweeps by counts", sort_names, counted[1], SORTS, lacking);
     report_named("thresholds at half of an odd capacity", half_names, halves, HALVES, lacking);
@@ -780,6 +1073,24 @@ static unsigned long report_all(int *lacking)
     report_steps("refused jobs by step    ", refused_step[0], lacking);
     report_steps("  of rows               ", refused_step[1], lacking);
     return inputs;
+}
+
+static void compare_all(unsigned long rounds)
+{
+    for (unsigned kind = 0; kind < 5; kind++) {
+        compare_lengths(kind, 0, 20);
+        compare_lengths(kind, 8180, 8204); /* about the most of sizes, of a table and of a row */
+    }
+    compare_rows();
+    compare_all_counts();
+    compare_places_of_blocks();
+    compare_numbers_of_blocks();
+    compare_longest_blocks();
+    compare_largest();
+    compare_largest_blocks();
+    memcpy(before_rounds, seen, sizeof before_rounds);
+    for (unsigned long i = 0; i < rounds; i++)
+        compare_round();
 }
 
 int main(int argc, char **argv)
@@ -793,15 +1104,7 @@ int main(int argc, char **argv)
     first_edge = new_edge();
     second_edge = new_edge();
     make_pattern();
-    for (unsigned kind = 0; kind < 5; kind++) {
-        compare_lengths(kind, 0, 20);
-        compare_lengths(kind, 8180, 8204); /* about the most of sizes, of a table and of a row */
-    }
-    compare_rows();
-    compare_all_counts();
-    compare_largest();
-    for (unsigned long i = 0; i < rounds; i++)
-        compare_round();
+    compare_all(rounds);
     unsigned long inputs = report_all(&lacking);
     printf("compare: %lu inputs, all the same%s\n", inputs, lacking ? ", but too narrow" : "");
     return lacking ? 1 : 0;

@@ -49,6 +49,12 @@ static uint64_t ends_below(uint64_t n)
     }
 }
 
+/* What the next one gets, where so much is left for so many: often nothing, and the last gets all. */
+static size_t random_share(size_t left, size_t sharers)
+{
+    return sharers == 1 ? left : lesser(left, below(2 * left / sharers + 1));
+}
+
 /* Capacities, steps and sizes */
 
 static uint64_t legal_capacity(void)
@@ -333,17 +339,24 @@ static void put_list(struct job_input *in, unsigned kind, uint64_t capacity, siz
     put_sizes(in, capacity, n, kind == 1);
 }
 
-static void put_copies(struct job_input *in, uint64_t copies)
+static void put_two_bytes(struct job_input *in, uint64_t number)
 {
-    put_byte(in, copies >> 8);
-    put_byte(in, copies);
+    put_byte(in, number >> 8);
+    put_byte(in, number);
 }
 
 static void put_counts(struct job_input *in, size_t n)
 {
     put_header(in, 7, 2 * n);
     while (n-- > 0)
-        put_copies(in, random_copies());
+        put_two_bytes(in, random_copies());
+}
+
+static void put_blocks(struct job_input *in, const uint16_t *blocks, size_t count)
+{
+    put_header(in, 8, 2 * count);
+    for (size_t i = 0; i < count; i++)
+        put_two_bytes(in, blocks[i]);
 }
 
 static void put_row(struct job_input *in, uint64_t right_side, size_t n)
@@ -423,12 +436,120 @@ static void put_random_counts(struct job_input *in, size_t n)
         memset(in->bytes + in->length - 2 * (1 + below(length)), 0, 2);
 }
 
+/* Blocks: how many sizes each has */
+
+enum { ROOM_BLOCKS = 512 };
+
+struct blocks {
+    size_t count;
+    uint16_t sizes[ROOM_BLOCKS];
+};
+
+/* So many blocks of n sizes in all, of one or more each: n is no less than their number. */
+static void divide(struct blocks *blocks, size_t n, size_t count)
+{
+    size_t left = n - count;
+    blocks->count = count;
+    for (size_t i = 0; i < count; i++) {
+        size_t more = random_share(left, count - i);
+        blocks->sizes[i] = (uint16_t)(1 + more);
+        left -= more;
+    }
+}
+
+static void put_divided(struct job_input *in, size_t n, size_t count)
+{
+    struct blocks blocks;
+    divide(&blocks, n, count);
+    put_blocks(in, blocks.sizes, blocks.count);
+}
+
+/* As many as n sizes may have: any number from 1 on, and often the most. */
+static size_t random_blocks(size_t n)
+{
+    size_t most = lesser(n, WINDOWFLOOR_MOST_BLOCKS);
+    return n == 0 || one_in(4) ? most : 1 + ends_below(most);
+}
+
+static void insert_block(struct blocks *blocks, uint64_t sizes)
+{
+    size_t at = below(blocks->count + 1);
+    memmove(blocks->sizes + at + 1, blocks->sizes + at, (blocks->count - at) * sizeof *blocks->sizes);
+    blocks->sizes[at] = (uint16_t)sizes;
+    blocks->count++;
+}
+
+/* One size more or less, but still one or more. */
+static void miscount(uint16_t *sizes)
+{
+    if (*sizes > 1 && below(2))
+        --*sizes;
+    else
+        ++*sizes;
+}
+
+/* Too many blocks: of n sizes, or of more where n is too few for so many. */
+static void divide_too_often(struct blocks *blocks, size_t n)
+{
+    size_t count = 65 + below(one_in(4) ? 300 : 3);
+    if (n >= 65)
+        divide(blocks, n, lesser(n, count));
+    else
+        divide(blocks, count, count);
+}
+
+/* Two blocks more, of as many sizes as 16 bits do not see. */
+static void add_65536(struct blocks *blocks)
+{
+    uint64_t sizes = 1 + ends_below(65535);
+    insert_block(blocks, sizes);
+    insert_block(blocks, 65536 - sizes);
+}
+
+static void spoil_blocks(struct blocks *blocks, size_t n)
+{
+    switch (below(blocks->count > 0 ? 6 : 4)) {
+    case 0: insert_block(blocks, 0); break;
+    case 1: insert_block(blocks, 1 + ends_below(65535)); break;
+    case 2: divide_too_often(blocks, n); break;
+    case 3: add_65536(blocks); break;
+    case 4: miscount(&blocks->sizes[below(blocks->count)]); break;
+    default: blocks->count /= 2; break;
+    }
+}
+
+/* The last field's value gets a byte more. Its length was even. */
+static void make_odd(struct job_input *in)
+{
+    put_byte(in, below(256));
+    in->bytes[in->field_at[in->fields - 1] + 2]++;
+}
+
+/* Mostly such as fit n sizes. */
+static void put_random_blocks(struct job_input *in, size_t n)
+{
+    struct blocks blocks;
+    divide(&blocks, n, random_blocks(n));
+    if (one_in(6))
+        spoil_blocks(&blocks, n);
+    put_blocks(in, blocks.sizes, blocks.count);
+    if (one_in(30))
+        make_odd(in);
+}
+
+/* A few have blocks before the counts, or twice. */
 static void put_random_list(struct job_input *in, unsigned kind, uint64_t capacity)
 {
     size_t n = random_count();
     put_list(in, kind, capacity, n);
-    if (kind == 1 && below(2))
+    if (kind != 1)
+        return;
+    if (one_in(60))
+        put_random_blocks(in, n);
+    if (below(2))
         put_random_counts(in, n);
+    if (below(2))
+        put_random_blocks(in, n);
 }
 
 /* Rows */
@@ -446,12 +567,6 @@ static uint64_t other_right_side(uint64_t first)
     if (one_in(8))
         return 1 + below(first);
     return lesser(first + below(first / 4 + 3), LIMIT);
-}
-
-/* Coefficients of the next row, where so many are left for so many rows: often none. */
-static size_t random_share(size_t left, size_t rows)
-{
-    return rows == 1 ? left : lesser(left, below(2 * left / rows + 1));
 }
 
 /* The first row has this right side; the others too, or each its own. */
@@ -577,14 +692,23 @@ static void lend_places(struct job_input *in, uint64_t too_short)
     in->working_places = some_places(WINDOWFLOOR_JOB_WORKING, too_short);
     in->list_places = some_places(WINDOWFLOOR_JOB_LIST, too_short);
     in->scales_places = some_places(WINDOWFLOOR_JOB_SCALES, too_short);
+    in->blocks_places = some_places(WINDOWFLOOR_JOB_BLOCKS, too_short);
 }
 
-/* Counts before a step, mostly out of place. */
+/* Mostly out of place. */
+static void put_counts_or_blocks(struct job_input *in)
+{
+    if (below(2))
+        put_counts(in, below(4));
+    else
+        put_random_blocks(in, below(4));
+}
+
 static void put_random_steps(struct job_input *in, uint64_t present)
 {
     for (size_t steps = random_steps(in->lists), i = 0; i < steps; i++) {
-        if (one_in(200))
-            put_counts(in, below(4));
+        if (one_in(100))
+            put_counts_or_blocks(in);
         present = i == 0 ? put_first_step(in, present) : put_random_step(in, present);
     }
 }
@@ -644,8 +768,16 @@ void job_of_rows(struct job_input *in, size_t rows, size_t n, unsigned fault)
     lend_places(in, 1000000);
 }
 
+static void put_blocks_of_one(struct job_input *in, size_t length)
+{
+    put_header(in, 8, length);
+    for (size_t i = 0; i < length; i++)
+        put_byte(in, i % 2);
+}
+
 /* The capacity is 0x01010101, which is also every size, and the step is legal there. */
-static void put_by_tag(struct job_input *in, unsigned tag, unsigned kind, size_t n, size_t length)
+static void put_by_tag(struct job_input *in, unsigned tag, unsigned kind, size_t n, size_t counts_length,
+                       size_t blocks_length)
 {
     struct family_step step = {2, 1, 0};
     switch (tag) {
@@ -654,15 +786,24 @@ static void put_by_tag(struct job_input *in, unsigned tag, unsigned kind, size_t
     case 3: put_filled(in, 3, 1, 4 * n); break;
     case 4: put_family(in, step); break;
     case 6: put_filled(in, 6, 1, 4 + 4 * n); break;
-    case 7: put_filled(in, 7, 1, length); break;
+    case 7: put_filled(in, 7, 1, counts_length); break;
+    case 8: put_blocks_of_one(in, blocks_length); break;
     }
 }
 
-void job_of_counts(struct job_input *in, const char *tags, unsigned kind, size_t n, size_t length)
+void job_of_tags(struct job_input *in, const char *tags, unsigned kind, size_t n, size_t counts_length,
+                 size_t blocks_length)
 {
     start_job(in);
     for (; *tags != '\0'; tags++)
-        put_by_tag(in, (unsigned)(*tags - '0'), kind, n, length);
+        put_by_tag(in, (unsigned)(*tags - '0'), kind, n, counts_length, blocks_length);
+    lend_places(in, 1000000);
+}
+
+void job_of_blocks(struct job_input *in, size_t n, const uint16_t *blocks, size_t count)
+{
+    put_list(in, 1, 100, n);
+    put_blocks(in, blocks, count);
     lend_places(in, 1000000);
 }
 
@@ -699,6 +840,16 @@ void largest_counted_job(struct job_input *in)
     lend_places(in, 1000000);
 }
 
+void largest_job_of_blocks(struct job_input *in)
+{
+    size_t n = (65535 - 14 - 3 - (3 + 2 * 64) - 7 * (3 + 8192)) / 6;
+    put_list(in, 1, 2047, n);
+    put_counts(in, n);
+    put_divided(in, n, 64);
+    put_largest_tables(in);
+    lend_places(in, 1000000);
+}
+
 void largest_rows(struct job_input *in)
 {
     put_kind(in, 3);
@@ -725,6 +876,15 @@ void longest_chain(struct job_input *in, int counted)
     lend_places(in, 1000000);
 }
 
+void longest_chain_of_blocks(struct job_input *in)
+{
+    put_list(in, 1, 1000000, 2048);
+    put_counts(in, 2048);
+    put_divided(in, 2048, 64);
+    put_longest_chain(in);
+    lend_places(in, 1000000);
+}
+
 /* Right sides with the same remainder by 700, so that family 5 leaves all of them enough. */
 void longest_chain_of_rows(struct job_input *in)
 {
@@ -744,14 +904,16 @@ static void put_steps_at_limit(struct job_input *in)
         put_family(in, steps[i]);
 }
 
-void greatest_sum(struct job_input *in)
+void greatest_sum(struct job_input *in, size_t blocks)
 {
     put_list_head(in, 1, LIMIT, 2048);
     for (int i = 0; i < 2048; i++)
         put_number(in, LIMIT);
     put_header(in, 7, 2 * 2048);
     for (int i = 0; i < 2048; i++)
-        put_copies(in, WINDOWFLOOR_MOST_COUNT);
+        put_two_bytes(in, WINDOWFLOOR_MOST_COUNT);
+    if (blocks > 0)
+        put_divided(in, 2048, blocks);
     put_steps_at_limit(in);
     lend_places(in, 1000000);
 }

@@ -23,7 +23,7 @@ struct table_input {
 
 struct job_input {
     uint8_t bytes[ROOM_BYTES];
-    size_t length, images_places, working_places, list_places, scales_places;
+    size_t length, images_places, working_places, list_places, scales_places, blocks_places;
     size_t field_at[ROOM_FIELDS], fields; /* where each field starts, before any damage */
     size_t first_list, lists;             /* which of them is the list of sizes, or which are rows */
 };
@@ -55,20 +55,27 @@ void job_of_length(struct job_input *in, unsigned kind, unsigned tag, size_t len
  * or 15, or none for 0. */
 void job_of_rows(struct job_input *in, size_t rows, size_t n, unsigned fault);
 
-/* A job of the kind with fields of these tags, a digit for each: n sizes, or coefficients of a row, and
- * counts whose value has this length. */
-void job_of_counts(struct job_input *in, const char *tags, unsigned kind, size_t n, size_t length);
+/* A job of the kind with fields of these tags, a digit for each: n sizes, or coefficients of a row; counts
+ * and blocks whose values have these lengths. Each block has one size. */
+void job_of_tags(struct job_input *in, const char *tags, unsigned kind, size_t n, size_t counts_length,
+                 size_t blocks_length);
+
+/* A floor job without counts and steps: so many sizes, in blocks of these numbers of sizes. */
+void job_of_blocks(struct job_input *in, size_t n, const uint16_t *blocks, size_t count);
 
 /* Inputs as large as they get; those of rows have 64 of them. */
 void largest_job(struct job_input *in, size_t bytes); /* seven tables of 2,048 entries */
 void largest_counted_job(struct job_input *in);       /* the same, and a count for each size */
+void largest_job_of_blocks(struct job_input *in);     /* counts too, and 64 blocks */
 void largest_rows(struct job_input *in);
 void longest_chain(struct job_input *in, int counted); /* 2,048 sizes, eight family steps */
+void longest_chain_of_blocks(struct job_input *in);    /* counts too, and 64 blocks */
 void longest_chain_of_rows(struct job_input *in);
 void largest_sweep(struct sweep_input *in, uint8_t family);
 
-/* The greatest sums: 2,048 sizes with the greatest count and image. */
-void greatest_sum(struct job_input *in);
+/* The greatest sums: 2,048 sizes with the greatest count and image; in so many blocks, or without tag 8
+ * for 0. */
+void greatest_sum(struct job_input *in, size_t blocks);
 void greatest_swept_sum(struct sweep_input *in, uint8_t family);
 
 #endif

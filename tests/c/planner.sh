@@ -70,6 +70,16 @@ run_counted_lists() {
     run 1000000000 1000000000x65535 1000000000x65535 600000000x2
 }
 
+run_blocks() {
+    run 10 7 5 / 7 5 / 5
+    run 10 5 / 5
+    run 10 6 6 6 / 4 / 6
+    run 10 7x1 / 5x1
+    run 10 7x2 5 / 7 5x300 / 5
+    run 100 51x2 34 26 / 34x2 / 26x3
+    run 1000000000 1000000000x65535 / 600000000x65535 600000000
+}
+
 run_refused() {
     run 10 11
     run 10 0
@@ -84,6 +94,17 @@ run_refused_counts() {
     run 10 5x0 11
     run 10 0x10
     run 1000000001 5x0
+}
+
+run_refused_blocks() {
+    run 10 / 7 5
+    run 10 7 / / 5
+    run 10 7 5 /
+    run 10 /
+    run 10 7 / / 11
+    run 10 7 / / 5x0
+    run 1000000001 5 /
+    run 99999999999 /
 }
 
 run_wrong_arguments() {
@@ -110,6 +131,14 @@ run_wrong_arguments() {
     run 10 5x18446744073709551617
     run 10 4294967297x1
     run 10 18446744073709551617x1
+    run / 10
+    run 10 5 //
+    run 10 5/ 5
+    run 10 5 /5
+    run 10 5 /x2
+    run 10 5x/
+    run 10 5 / x
+    run 10 $(repeat '5 / ' 64) 5
 }
 
 run_files() {
@@ -120,6 +149,9 @@ run_files() {
     run_text counts.txt '60\n20x5 31x3\n41x2\t12'
     run_text zeros_of_count.txt "60 20x$(repeat 0 1000)5\n"
     run_text most_counts.txt "60\n$(repeat '7x65535 ' 2047)7x0\n"
+    run_text blocks.txt '60\n20x5 31\n/ 31x2 /\n41x2\t12'
+    run_text most_blocks.txt "60\n$(repeat '31 /\\n' 63)7\n"
+    run_text empty_block.txt '60\n20\n/\n/\n31\n'
 }
 
 run_wrong_files() {
@@ -144,6 +176,9 @@ run_wrong_files() {
     run_text count.txt '60\n20x5\n31x 3\n'
     run_text count_bits.txt '60\n20x65536\n'
     run_text counted_capacity.txt '60x1\n20x5\n'
+    run_text block_first.txt '/ 60\n20\n'
+    run_text glued.txt '60\n20 / 31\n41/12\n'
+    run_text too_many_blocks.txt "60\n$(repeat '7 /\\n' 64)8\n"
     run_file "$lists" missing.txt
     mkdir "$lists/folder"
     run_file "$lists" folder
@@ -183,14 +218,19 @@ run_wrong_models() {
     run_rows_text row_count.txt '10 7\n10 5x3\n'
     run_rows_text right_side_count.txt '10x1 7\n'
     run_rows "$here" planner_rows.txt 1 3x1 0
+    run_rows_text row_block.txt '10 7\n10 5 / 3\n'
+    run_rows_text first_block.txt '10 7\n/ 10 5\n'
+    run_rows "$here" planner_rows.txt 1 / 0
     run_rows "$lists" missing.txt
 }
 
 run_all() {
     run_lists
     run_counted_lists
+    run_blocks
     run_refused
     run_refused_counts
+    run_refused_blocks
     run_wrong_arguments
     run_files
     run_wrong_files

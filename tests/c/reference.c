@@ -255,7 +255,7 @@ struct windowfloor_table_answer reference_table_check(const uint32_t *table, siz
  * and tells it behind the value's last byte. If the job ends before that byte, 13 is told instead. */
 
 enum { MOST_STEPS = 8, MOST_BYTES = 65535, MOST_FIELDS = MOST_BYTES / 3, TAGS = 256 };
-enum { MOST_ROWS = 64, MOST_COEFFICIENTS = 2048 };
+enum { MOST_ROWS = 64, MOST_COEFFICIENTS = 2048, MOST_BLOCKS = 64 };
 
 /* The part of a field that the next byte belongs to. */
 enum part { TAG, LENGTH_HIGH, LENGTH_LOW, VALUE };
@@ -271,6 +271,7 @@ enum place {
     BEHIND_FLOOR_CAPACITY,
     BEHIND_FLOOR_SIZES,
     BEHIND_COUNTS,
+    BEHIND_BLOCKS,
     AMONG_ROWS, /* behind the kind 3, or behind a row */
     BEHIND_STEP,
     PLACES
@@ -284,14 +285,15 @@ static const uint8_t place_behind[PLACES][TAGS] = {
     [BEHIND_SIZES] = {[4] = BEHIND_STEP, [5] = BEHIND_STEP},
     [BEHIND_FLOOR_KIND] = {[2] = BEHIND_FLOOR_CAPACITY},
     [BEHIND_FLOOR_CAPACITY] = {[3] = BEHIND_FLOOR_SIZES},
-    [BEHIND_FLOOR_SIZES] = {[4] = BEHIND_STEP, [5] = BEHIND_STEP, [7] = BEHIND_COUNTS},
-    [BEHIND_COUNTS] = {[4] = BEHIND_STEP, [5] = BEHIND_STEP},
+    [BEHIND_FLOOR_SIZES] = {[4] = BEHIND_STEP, [5] = BEHIND_STEP, [7] = BEHIND_COUNTS, [8] = BEHIND_BLOCKS},
+    [BEHIND_COUNTS] = {[4] = BEHIND_STEP, [5] = BEHIND_STEP, [8] = BEHIND_BLOCKS},
+    [BEHIND_BLOCKS] = {[4] = BEHIND_STEP, [5] = BEHIND_STEP},
     [AMONG_ROWS] = {[4] = BEHIND_STEP, [5] = BEHIND_STEP, [6] = AMONG_ROWS},
     [BEHIND_STEP] = {[4] = BEHIND_STEP, [5] = BEHIND_STEP},
 };
 
-static const uint8_t may_end[PLACES] = {[BEHIND_SIZES] = 1, [BEHIND_FLOOR_SIZES] = 1, [BEHIND_COUNTS] = 1,
-                                        [AMONG_ROWS] = 1,   [BEHIND_STEP] = 1};
+static const uint8_t may_end[PLACES] = {[BEHIND_SIZES] = 1,  [BEHIND_FLOOR_SIZES] = 1, [BEHIND_COUNTS] = 1,
+                                        [BEHIND_BLOCKS] = 1, [AMONG_ROWS] = 1,         [BEHIND_STEP] = 1};
 
 /* A tag's lengths, and how many bytes the first number of its value has, and each of the others. Of the
  * lengths of tag 7 one alone is right: there are as many counts as sizes. */
@@ -305,6 +307,7 @@ static const struct layout {
     [5] = {8, 4 * 2048, 4, 4, 4},
     [6] = {4, MOST_BYTES, 4, 4, 4},
     [7] = {0, 2 * 2048, 2, 2, 2},
+    [8] = {0, MOST_BYTES, 2, 2, 2},
 };
 
 struct field {
@@ -337,6 +340,15 @@ static struct field field_of(const struct fields *fields, unsigned tag)
     while (fields->at[i].tag != tag)
         i++;
     return fields->at[i];
+}
+
+/* Of one that comes once or not at all; NULL if it does not come. */
+static const struct field *field_if_any(const struct fields *fields, unsigned tag)
+{
+    for (size_t i = 0; i < fields->count; i++)
+        if (fields->at[i].tag == tag)
+            return &fields->at[i];
+    return NULL;
 }
 
 static int length_wrong(unsigned tag, size_t length, const struct fields *fields)
@@ -485,14 +497,27 @@ static uint64_t table_step(struct field f, struct chain *chain, uint32_t *list, 
     return 0;
 }
 
-static uint64_t list_refusal(unsigned kind, const struct chain *chain)
+static int blocks_wrong(const struct field *blocks, size_t n)
+{
+    size_t sizes = 0;
+    for (size_t i = 0; i < blocks->count; i++) {
+        if (blocks->numbers[i] == 0)
+            return 1;
+        sizes += blocks->numbers[i];
+    }
+    return blocks->count > MOST_BLOCKS || sizes != n;
+}
+
+static uint64_t list_refusal(unsigned kind, const struct chain *chain, const struct field *blocks)
 {
     if (capacity_refused(chain->scale))
         return 1;
     for (size_t i = 0; i < chain->n; i++)
         if (chain->images[i] > chain->scale || (kind == 1 && chain->images[i] == 0))
             return 17;
-    return some_count_is_0(chain->counts, chain->n) ? 22 : 0;
+    if (some_count_is_0(chain->counts, chain->n))
+        return 22;
+    return blocks != NULL && blocks_wrong(blocks, chain->n) ? 23 : 0;
 }
 
 /* Job */
@@ -509,10 +534,9 @@ static void start_chain(struct chain *chain, uint32_t capacity, const uint32_t *
 /* The counts of a job that has them stand in the place of ones. */
 static void set_counts(struct chain *chain, const struct fields *fields)
 {
-    for (size_t k = 0; k < fields->count; k++)
-        if (fields->at[k].tag == 7)
-            for (size_t i = 0; i < chain->n; i++)
-                chain->counts[i] = (uint16_t)fields->at[k].numbers[i];
+    const struct field *counts = field_if_any(fields, 7);
+    for (size_t i = 0; counts != NULL && i < chain->n; i++)
+        chain->counts[i] = (uint16_t)counts->numbers[i];
 }
 
 /* A refusal's number, step and length go into the answer. */
@@ -534,31 +558,51 @@ static void run_steps(const struct fields *fields, struct chain *chain, uint32_t
 static void run_chain(unsigned kind, const struct fields *fields, struct chain *chain, uint32_t *list,
                       struct windowfloor_job_answer *answer)
 {
-    answer->number = list_refusal(kind, chain);
+    answer->number = list_refusal(kind, chain, field_if_any(fields, 8));
     if (answer->number == 0)
         run_steps(fields, chain, list, answer);
 }
 
 /* Kinds 1 and 2 */
 
+/* Of n sizes from the first on. */
+static uint64_t sum_of(const struct chain *chain, size_t first, size_t n)
+{
+    uint64_t sum = 0;
+    for (size_t i = first; i < first + n; i++)
+        sum += (uint64_t)chain->counts[i] * chain->images[i];
+    return sum;
+}
+
+/* A block begins where the one before it ends. */
+static void accept_blocks(const struct chain *chain, const struct field *block_sizes, uint32_t *blocks,
+                          struct windowfloor_job_answer *answer)
+{
+    size_t first = 0;
+    answer->total = 0;
+    for (size_t i = 0; i < block_sizes->count; i++) {
+        blocks[i] = (uint32_t)up(sum_of(chain, first, block_sizes->numbers[i]), chain->scale);
+        answer->total += blocks[i];
+        first += block_sizes->numbers[i];
+    }
+}
+
 static void accept_list(unsigned kind, const struct chain *chain, uint32_t *images,
                         struct windowfloor_job_answer *answer)
 {
+    memcpy(images, chain->images, chain->n * sizeof *images);
     answer->n = chain->n;
     answer->scale = chain->scale;
-    for (size_t i = 0; i < chain->n; i++) {
-        images[i] = chain->images[i];
-        if (kind == 1)
-            answer->sum += (uint64_t)chain->counts[i] * chain->images[i];
-    }
-    answer->floor = (uint64_t)up(answer->sum, answer->scale);
+    answer->sum = kind == 1 ? sum_of(chain, 0, chain->n) : 0;
+    answer->floor = answer->total = (uint64_t)up(answer->sum, answer->scale);
 }
 
 static void run_list(unsigned kind, const struct fields *fields, uint32_t *images, uint32_t *list,
-                     struct windowfloor_job_answer *answer)
+                     uint32_t *blocks, struct windowfloor_job_answer *answer)
 {
     static struct chain chain;
     struct field sizes = field_of(fields, 3);
+    const struct field *block_sizes = field_if_any(fields, 8);
     if (kind != 1 && kind != 2) {
         answer->number = 16;
         return;
@@ -566,8 +610,11 @@ static void run_list(unsigned kind, const struct fields *fields, uint32_t *image
     start_chain(&chain, field_of(fields, 2).numbers[0], sizes.numbers, sizes.count);
     set_counts(&chain, fields);
     run_chain(kind, fields, &chain, list, answer);
-    if (answer->number == 0)
-        accept_list(kind, &chain, images, answer);
+    if (answer->number != 0)
+        return;
+    accept_list(kind, &chain, images, answer);
+    if (block_sizes != NULL)
+        accept_blocks(&chain, block_sizes, blocks, answer);
 }
 
 /* Kind 3: a row is a right side and its coefficients. Rows are kept until the last is accepted. */
@@ -633,7 +680,8 @@ struct windowfloor_job_answer reference_job(const uint8_t *job, size_t bytes,
                                             uint32_t *images, size_t images_places,
                                             uint64_t *working, size_t working_places,
                                             uint32_t *list, size_t list_places,
-                                            uint32_t *scales, size_t scales_places)
+                                            uint32_t *scales, size_t scales_places,
+                                            uint32_t *blocks, size_t blocks_places)
 {
     static struct fields fields;
     struct windowfloor_job_answer answer;
@@ -641,7 +689,8 @@ struct windowfloor_job_answer reference_job(const uint8_t *job, size_t bytes,
     (void)working;
     if (bytes > MOST_BYTES)
         answer.number = 12;
-    else if (images_places < 2048 || working_places < 2048 || list_places < 2047 || scales_places < 64)
+    else if (images_places < 2048 || working_places < 2048 || list_places < 2047 || scales_places < 64
+             || blocks_places < 64)
         answer.number = 7;
     else
         answer.number = fields_refusal(read_fields(job, bytes, &fields));
@@ -651,7 +700,7 @@ struct windowfloor_job_answer reference_job(const uint8_t *job, size_t bytes,
     if (kind == 3)
         run_rows(&fields, images, list, scales, &answer);
     else
-        run_list(kind, &fields, images, list, &answer);
+        run_list(kind, &fields, images, list, blocks, &answer);
     return answer;
 }
 

@@ -18,7 +18,8 @@ struct windowfloor_job_answer reference_job(const uint8_t *job, size_t bytes,
                                             uint32_t *images, size_t images_places,
                                             uint64_t *working, size_t working_places,
                                             uint32_t *list, size_t list_places,
-                                            uint32_t *scales, size_t scales_places);
+                                            uint32_t *scales, size_t scales_places,
+                                            uint32_t *blocks, size_t blocks_places);
 
 struct windowfloor_sweep_answer reference_sweep(uint64_t capacity, uint8_t family,
                                                 const uint32_t *sizes, size_t n,

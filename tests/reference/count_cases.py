@@ -6,9 +6,8 @@ import random
 
 import windowfloor as wf
 from job_bytes import (
-    BAD_STEPS, changed_value, counted_fields, counted_job, counts, cut_short, damaged, family, field, head, job,
-    last_only, leaving, make, other_lengths_at, other_tags_at, random_pairs, random_steps, row, table, word,
-    written_out)
+    BAD_STEPS, counted_fields, counted_job, counts, cut_short, damaged, family, field, head, job, leaving, make, moved,
+    other_lengths_at, other_tags_at, other_value, random_pairs, random_steps, row, table, tables_of, word, written_out)
 from table_cases import FAMILY_STEPS, LIMIT, MAX, MOST_PLACES
 
 RANDOM = 20  # of each kind
@@ -121,7 +120,7 @@ def later_fields():
     step = family(1, 3)
     for start in (counted_job(10, [(7, 2)]), COUNT_OF_0):
         for end in (b"\4", b"\5\0", b"\7", b"\7\0", b"\7\0\2\0", b"\4\0\x09" + bytes(8), b"\5\0\x08" + bytes(7),
-                    field(1, b"\1"), field(2, word(10)), field(3, word(5)), row(10, 3), b"\0\0\0", b"\x08\0\0",
+                    field(1, b"\1"), field(2, word(10)), field(3, word(5)), row(10, 3), b"\0\0\0", b"\x09\0\0",
                     counts(1), counts(2, 3, 4), counts(), step + counts(1), step * 9, step * 8 + b"\4",
                     field(4, bytes(8)), field(5, bytes(4)), field(5, bytes(9)), step + field(4, b"")):
             yield start + end
@@ -186,11 +185,6 @@ def roundings():
         yield counted_job(SAME, [(SAME, MOST_COUNT)] * (SIZES - 1) + [(last, 1)])
 
 
-def tables_of(*lengths):
-    """Tables of these lengths, one behind another: all but the last entry is 0."""
-    return [last_only(n, after - 1) for n, after in zip(lengths, lengths[1:] + (8,))]
-
-
 def longest():
     """Jobs of 65,535 bytes with few sizes and with many, and next to it."""
     for lengths, small in (((2036,) + (2048,) * 7, 0), ((500, 515) + (2048,) * 6, 2046)):
@@ -222,26 +216,13 @@ def counted_and_written_out():
         yield job(1, capacity, written_out(pairs), *steps)
 
 
-def moved(rng, fields):
-    """The job with its counts at another place, or there as well."""
-    others = fields[:PLACE] + fields[PLACE + 1:]
-    start = rng.choice((fields, others))
-    place = rng.randint(0, len(start))
-    return b"".join(start[:place] + [fields[PLACE]] + start[place:])
-
-
-def other_counts(rng, fields):
-    """The job with a byte of its counts changed."""
-    return b"".join(fields[:PLACE]) + changed_value(rng, fields[PLACE:PLACE + 1]) + b"".join(fields[PLACE + 1:])
-
-
 def random_jobs():
     rng = random.Random(60_000)
     for _ in range(RANDOM):
         yield b"".join(random_fields(rng))
         yield damaged(rng, random_fields(rng))
-        yield moved(rng, random_fields(rng))
-        yield other_counts(rng, random_fields(rng))
+        yield moved(rng, random_fields(rng), PLACE)
+        yield other_value(rng, random_fields(rng), PLACE)
 
 
 def buffers():

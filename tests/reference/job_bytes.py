@@ -43,6 +43,11 @@ def last_only(n, last):
     return table(*[0] * (n - 1), last)
 
 
+def tables_of(*lengths):
+    """Tables of these lengths, one behind another: all but the last entry is 0."""
+    return [last_only(n, after - 1) for n, after in zip(lengths, lengths[1:] + (8,))]
+
+
 def bad_tables(capacity):
     """Tables of this capacity, 2 or more, that the table check refuses with 8, 9, 10 and 11."""
     zeros = [0] * (capacity - 2)
@@ -62,8 +67,16 @@ def rows_job(rows, *steps):
     return b"".join(rows_fields(rows, *steps))
 
 
+def halfwords(numbers):
+    return b"".join(number.to_bytes(2, "big") for number in numbers)
+
+
 def counts(*numbers):
-    return field(7, b"".join(number.to_bytes(2, "big") for number in numbers))
+    return field(7, halfwords(numbers))
+
+
+def blocks(*numbers):
+    return field(8, halfwords(numbers))
 
 
 def apart(pairs):
@@ -84,6 +97,31 @@ def counted_fields(capacity, pairs, *steps):
 
 def counted_job(capacity, pairs, *steps):
     return b"".join(counted_fields(capacity, pairs, *steps))
+
+
+def together(groups):
+    """The members of all groups, one behind the other."""
+    return [member for group in groups for member in group]
+
+
+def groups_at(members, cuts):
+    """The members in order, in groups that start at the first and at these places."""
+    starts = [0, *cuts]
+    return [members[start:end] for start, end in zip(starts, starts[1:] + [len(members)])]
+
+
+def blocks_of(groups):
+    return blocks(*map(len, groups))
+
+
+def blocked_job(capacity, groups, *steps):
+    """A floor job with blocks; a group has the sizes of one block."""
+    return job(1, capacity, together(groups), blocks_of(groups), *steps)
+
+
+def counted_blocked_job(capacity, groups, *steps):
+    """The same with counts; a group has the pairs of one block."""
+    return counted_job(capacity, together(groups), blocks_of(groups), *steps)
 
 
 # Refused at capacity 10.
@@ -114,13 +152,14 @@ def tables_about_4():
 
 def lent():
     """Buffers of a job, each with no more places than it needs."""
-    return [0] * wf.JOB_IMAGES, [0] * wf.JOB_WORKING, [0] * wf.JOB_LIST, [0] * wf.JOB_SCALES
+    return [0] * wf.JOB_IMAGES, [0] * wf.JOB_WORKING, [0] * wf.JOB_LIST, [0] * wf.JOB_SCALES, [0] * wf.JOB_BLOCKS
 
 
-def make(data, images=wf.JOB_IMAGES, working=wf.JOB_WORKING, listed=wf.JOB_LIST, scales=wf.JOB_SCALES):
+def make(data, images=wf.JOB_IMAGES, working=wf.JOB_WORKING, listed=wf.JOB_LIST, scales=wf.JOB_SCALES,
+         floors=wf.JOB_BLOCKS):
     """A case of a job and the places of its buffers."""
     runs = [(len(list(group)), byte) for byte, group in itertools.groupby(data)]
-    return (images, working, listed, scales, len(data), len(runs)) + sum(runs, ())
+    return (images, working, listed, scales, floors, len(data), len(runs)) + sum(runs, ())
 
 
 # A good job in every way changed
@@ -134,7 +173,7 @@ def cut_short(data):
 def other_tags_at(good, place):
     """Every tag at a place of the good fields; the field there left out, and twice."""
     before, part, behind = good[:place], good[place], good[place + 1:]
-    for tag in (0, 1, 2, 3, 4, 5, 6, 7, 128, 255):
+    for tag in (0, 1, 2, 3, 4, 5, 6, 7, 8, 9, 128, 255):
         yield b"".join(before + [bytes([tag]) + part[1:]] + behind)
     yield b"".join(before + behind)
     yield b"".join(before + [part, part] + behind)
@@ -175,6 +214,14 @@ def leaving(draw, left):
 def random_pairs(rng, capacity, n, most):
     """So many pairs, with counts up to the most."""
     return [(rng.randint(1, capacity), rng.randint(1, most)) for _ in range(n)]
+
+
+def random_groups(rng, members, most):
+    """The members in order, in at most so many groups of one or more."""
+    if not members:
+        return []
+    cuts = rng.sample(range(1, len(members)), rng.randint(0, min(most, len(members)) - 1))
+    return groups_at(members, sorted(cuts))
 
 
 def random_family(rng, capacity):
@@ -244,3 +291,15 @@ def changed_value(rng, fields):
     if len(part) > 3:
         part = part[:3] + change_byte(rng, part[3:])
     return b"".join(fields[:place] + [part] + fields[place + 1:])
+
+
+def other_value(rng, fields, place):
+    """The job with a byte of the value at a place changed."""
+    return b"".join(fields[:place]) + changed_value(rng, fields[place:place + 1]) + b"".join(fields[place + 1:])
+
+
+def moved(rng, fields, place):
+    """The job with the field of a place at another, or there as well."""
+    start = rng.choice((fields, fields[:place] + fields[place + 1:]))
+    other = rng.randint(0, len(start))
+    return b"".join(start[:other] + [fields[place]] + start[other:])

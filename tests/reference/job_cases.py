@@ -1,17 +1,18 @@
-"""Writes crates/job_cases/stdin (job cases: i w l s b k and k runs) and
-crates/job_cases/stdout (their answers: the eight numbers, a checksum of the
-image buffer, of the list buffer and of the buffer of scales). With --check it
-writes nothing and fails if a stored file differs.
+"""Writes crates/job_cases/stdin (job cases: i w l s f b k and k runs) and
+crates/job_cases/stdout (their answers: the nine numbers, a checksum of the
+image buffer, of the list buffer, of the buffer of scales and of that of block
+floors). With --check it writes nothing and fails if a stored file differs.
 
-The image, working and list buffers and that of scales have i, w, l and s
-places. The job has b bytes: those of the runs (count, byte) in turn, and 0
-behind them. Before the call place j of the image buffer holds 800,000 + j, of
-the working buffer 7,000,000,000 + j, of the list buffer 900,000 + j and of the
-scales 700,000 + j. No case lies in two blocks of 65,536 bytes: empty lines fill
-up a block.
+The image, working and list buffers and those of scales and of block floors have
+i, w, l, s and f places. The job has b bytes: those of the runs (count, byte) in
+turn, and 0 behind them. Before the call place j of the image buffer holds
+800,000 + j, of the working buffer 7,000,000,000 + j, of the list buffer
+900,000 + j, of the scales 700,000 + j and of the block floors 600,000 + j. No
+case lies in two of the blocks of 65,536 bytes that the program reads: empty
+lines fill up a block.
 
-Here are the cases of kinds 1 and 2; row_cases.py has those of kind 3 and
-count_cases.py those with counts."""
+Here are the cases of kinds 1 and 2; row_cases.py has those of kind 3,
+count_cases.py those with counts and block_cases.py those with blocks."""
 
 import itertools
 import random
@@ -19,6 +20,7 @@ import sys
 
 sys.dont_write_bytecode = True
 import windowfloor as wf
+from block_cases import block_cases
 from case_files import in_blocks, lines, store_or_check
 from count_cases import count_cases
 from job_bytes import (
@@ -53,10 +55,10 @@ def form():
     """Runs that do not fill the job, and runs behind its end."""
     data = job(2, 10, (0, 0))
     case = make(data)
-    yield case[:4] + (len(data) - 1,) + case[5:]
-    yield case[:4] + (len(data) + 12,) + case[5:]
-    yield case[:4] + (len(data), 0)
-    yield case[:4] + (len(data), 1, 99, 4)
+    yield case[:5] + (len(data) - 1,) + case[6:]
+    yield case[:5] + (len(data) + 12,) + case[6:]
+    yield case[:5] + (len(data), 0)
+    yield case[:5] + (len(data), 1, 99, 4)
 
 
 def truncated():
@@ -263,7 +265,7 @@ def all_cases():
     cases = {}
     for part in (reckoned, form, truncated, tag_orders, lengths, chains, bad_steps, other_capacities,
                  capacities, kinds, counts, roundings, buffers, longest, random_cases, row_cases,
-                 count_cases, first_halves, later_halves, chains_of_halves):
+                 count_cases, first_halves, later_halves, chains_of_halves, block_cases):
         cases.update(dict.fromkeys(part()))
     return list(cases)
 
@@ -271,20 +273,21 @@ def all_cases():
 # Answers
 
 def job_of(case):
-    b, k, runs = case[4], case[5], case[6:]
+    b, k, runs = case[5], case[6], case[7:]
     assert b <= MOST_BYTES and len(runs) == 2 * k
     data = b"".join(bytes([byte]) * count for count, byte in zip(runs[::2], runs[1::2]))
     return (data + bytes(b))[:b]
 
 
 def answer(case):
-    assert max(case[:4]) <= MOST_PLACES
+    assert max(case[:5]) <= MOST_PLACES
     images = [800_000 + i for i in range(case[0])]
     working = [7_000_000_000 + i for i in range(case[1])]
     listed = [900_000 + i for i in range(case[2])]
     scales = [700_000 + i for i in range(case[3])]
-    numbers = wf.job(job_of(case), images, working, listed, scales)
-    return numbers + (checksum(images), checksum(listed), checksum(scales))
+    floors = [600_000 + i for i in range(case[4])]
+    numbers = wf.job(job_of(case), images, working, listed, scales, floors)
+    return numbers + tuple(map(checksum, (images, listed, scales, floors)))
 
 
 def main():

@@ -9,7 +9,7 @@ from pathlib import Path
 
 sys.dont_write_bytecode = True
 import windowfloor as wf
-from job_bytes import apart, counted_job, family as family_step, job
+from job_bytes import apart, blocks_of, counted_job, family as family_step, job, lent, together
 
 FOLDER = Path(__file__).resolve().parents[1] / "c"
 FAMILIES = ("no step", "threshold", "rounding", "mirrored quotient", "mirrored Vanderbeck", "Burdett-Johnson")
@@ -17,7 +17,8 @@ MOST_TRIED = 16 * 4096  # the greatest p of all ranges
 WORDS = {1: "the capacity is 0 or over the limit", 2: "the family is not 1 to 7, or in a sweep not 1 to 5",
          3: "p or q is not legal for the family", 4: "the scale would pass the limit",
          17: "a size is 0 in a list, or over the capacity",
-         21: "a job of rows has no row, too many rows, or too many coefficients", 22: "a count is 0"}
+         21: "a job of rows has no row, too many rows, or too many coefficients", 22: "a count is 0",
+         23: "a block has no sizes, there are too many blocks, or they do not add up to the sizes"}
 LISTS = ("10 7 7 5 5 5", "10 6 6 6", "5 3 3 3", "100 51 51 34 34 34 26 26 26 26", "planner.txt", "1 1 1",
          "8192 4097 2731 2731", "12287 8192 8192 4096 4096 4096", "12290 8194 8194 4097 4097 4097",
          "20000 13334 13334 6667 6667 6667",
@@ -27,7 +28,12 @@ REFUSED = ("10 11", "10 0", "0 1", "1000000001 1", "99999999999 1")
 COUNTED = ("10 7x2 5x3", "10 5x300", "10 6x255 6x256 4", "100 51x2 34x3 26x4", "10 7x1 5x1", "10 3x65535 7x65535",
            "1000000000 1000000000x65535 1000000000x65535 600000000x2")
 REFUSED_COUNTS = ("10 5x0", "10 5x2 5x0", "10 5x0 11", "10 0x10", "1000000001 5x0")
-USAGE = "usage: planner CAPACITY SIZE[xCOUNT]... | planner FILE | planner --rows FILE [FAMILY P Q]..."
+IN_BLOCKS = ("10 7 5 / 7 5 / 5", "10 5 / 5", "10 6 6 6 / 4 / 6", "10 7x1 / 5x1", "10 7x2 5 / 7 5x300 / 5",
+             "100 51x2 34 26 / 34x2 / 26x3", "1000000000 1000000000x65535 / 600000000x65535 600000000")
+REFUSED_BLOCKS = ("10 / 7 5", "10 7 / / 5", "10 7 5 /", "10 /", "10 7 / / 11", "10 7 / / 5x0", "1000000001 5 /",
+                  "99999999999 /")
+USAGE = ("usage: planner CAPACITY SIZE[xCOUNT]... [/ SIZE[xCOUNT]...]... | planner FILE"
+         " | planner --rows FILE [FAMILY P Q]...")
 WRONG_ARGUMENTS = (
     ("", USAGE),
     ("10", "10: " + os.strerror(errno.ENOENT)),
@@ -51,10 +57,20 @@ WRONG_ARGUMENTS = (
     ("10 5x4294967297", "argument 2: a count of more than 16 bits: 5x4294967297"),
     ("10 5x18446744073709551617", "argument 2: a count of more than 16 bits: 5x184467440737095516..."),
     ("10 4294967297x1", "argument 2: a size of more than 32 bits: 4294967297x1"),
-    ("10 18446744073709551617x1", "argument 2: a number of more than 64 bits: 18446744073709551617..."))
+    ("10 18446744073709551617x1", "argument 2: a number of more than 64 bits: 18446744073709551617..."),
+    ("/ 10", "argument 1: not a number: /"),
+    ("10 5 //", "argument 3: not a number: //"),
+    ("10 5/ 5", "argument 2: not a number: 5/"),
+    ("10 5 /5", "argument 3: not a number: /5"),
+    ("10 5 /x2", "argument 3: not a number: /x2"),
+    ("10 5x/", "argument 2: not a number: 5x/"),
+    ("10 5 / x", "argument 4: not a number: x"),
+    ("10" + 64 * " 5 /" + " 5", "argument 129: more blocks than a job can have: /"))
 FILES = (("no_sizes.txt", "60"), ("spaces.txt", "60 20 20 20"), ("zeros.txt", "60 20"),
          ("most_sizes.txt", "60" + 2047 * " 7" + " 61"), ("counts.txt", "60 20x5 31x3 41x2 12"),
-         ("zeros_of_count.txt", "60 20x5"), ("most_counts.txt", "60" + 2047 * " 7x65535" + " 7x0"))
+         ("zeros_of_count.txt", "60 20x5"), ("most_counts.txt", "60" + 2047 * " 7x65535" + " 7x0"),
+         ("blocks.txt", "60 20x5 31 / 31x2 / 41x2 12"), ("most_blocks.txt", "60" + 63 * " 31 /" + " 7"),
+         ("empty_block.txt", "60 20 / / 31"))
 WRONG_FILES = (
     ("empty.txt", ", line 1: the file ends before a capacity"),
     ("blank.txt", ", line 3: the file ends before a capacity"),
@@ -77,13 +93,17 @@ WRONG_FILES = (
     ("count.txt", ", line 3: not a number: 31x"),
     ("count_bits.txt", ", line 2: a count of more than 16 bits: 20x65536"),
     ("counted_capacity.txt", ", line 1: not a number: 60x1"),
+    ("block_first.txt", ", line 1: not a number: /"),
+    ("glued.txt", ", line 3: not a number: 41/12"),
+    ("too_many_blocks.txt", ", line 65: more blocks than a job can have: /"),
     ("missing.txt", ": " + os.strerror(errno.ENOENT)),
     ("folder", ", line 1: " + os.strerror(errno.EISDIR)))
 MODEL = tuple(tuple(map(int, line.split())) for line in (FOLDER / "planner_rows.txt").read_text().splitlines())
 MODELS = (  # a file, its rows, and the steps
     ("planner_rows.txt", MODEL, ()),
     ("planner_rows.txt", MODEL, ((1, 3, 0), (3, 3, 0))),
-    ("planner_rows.txt", MODEL, ((4, 4, 0), (1, 2, 0), (2, 3, 0), (3, 2, 0), (5, 4, 0), (6, 3, 2), (7, 5, 2), (1, 9, 0))),
+    ("planner_rows.txt", MODEL,
+     ((4, 4, 0), (1, 2, 0), (2, 3, 0), (3, 2, 0), (5, 4, 0), (6, 3, 2), (7, 5, 2), (1, 9, 0))),
     ("no_coefficients.txt", ((10,), (20, 7), (30,)), ((2, 1, 0),)),
     ("planner_rows.txt", MODEL, ((8, 0, 0),)),
     ("planner_rows.txt", MODEL, ((7, 4, 1),)),
@@ -109,6 +129,9 @@ WRONG_MODELS = (
     (" row_count.txt", "row_count.txt, line 2: not a number: 5x3"),
     (" right_side_count.txt", "right_side_count.txt, line 1: not a number: 10x1"),
     (" planner_rows.txt 1 3x1 0", "argument 4: not a number: 3x1"),
+    (" row_block.txt", "row_block.txt, line 2: not a number: /"),
+    (" first_block.txt", "first_block.txt, line 2: not a number: /"),
+    (" planner_rows.txt 1 / 0", "argument 4: not a number: /"),
     (" missing.txt", "missing.txt: " + os.strerror(errno.ENOENT)))
 
 
@@ -118,15 +141,35 @@ def pair(word):
     return int(size), int(count) if x else 1
 
 
+def in_blocks(words):
+    """The pairs of each block; where there is no /, all of them."""
+    ends = [place for place, word in enumerate(words) if word == "/"] + [len(words)]
+    starts = [0] + [end + 1 for end in ends]
+    return [[pair(word) for word in words[start:end]] for start, end in zip(starts, ends)]
+
+
 def notation(pairs):
     return " ".join(f"{size}x{count}" if count != 1 else f"{size}" for size, count in pairs)
 
 
+def floor_job(capacity, blocks, *steps):
+    """With tag 8 where there are two blocks or more."""
+    divided = [blocks_of(blocks)] if len(blocks) > 1 else []
+    return counted_job(capacity, together(blocks), *divided, *(family_step(*step) for step in steps))
+
+
 def run_job(data):
     """The numbers of the answer, and the images."""
-    images, working, listed, scales = [0] * 2048, [0] * 2048, [0] * 2047, [0] * 64
-    numbers = wf.job(data, images, working, listed, scales)
+    images, *others = lent()
+    numbers = wf.job(data, images, *others)
     return numbers, images[:numbers[1]]
+
+
+def run_blocks(capacity, blocks, *steps):
+    """The block floors and their total."""
+    *others, floors = lent()
+    *_, total = wf.job(floor_job(capacity, blocks, *steps), *others, floors)
+    return floors[:len(blocks)], total
 
 
 def run_cut(capacity, sizes, *steps):
@@ -173,29 +216,40 @@ def inequality(coefficients, right_side):
     return " +".join(f" {value} x{i + 1}" for i, value in enumerate(coefficients)) + f" <= {right_side}\n"
 
 
-def listed(capacity, pairs):
+def listed(capacity, blocks):
     """The list, with its sizes if they have counts."""
-    sizes = f": {notation(pairs)}" if any(count != 1 for _, count in pairs) else ""
-    return f"capacity {capacity}, {len(pairs)} sizes{sizes}\n"
+    pairs = together(blocks)
+    number = f", {len(blocks)} blocks" if len(blocks) > 1 else ""
+    sizes = f": {' / '.join(map(notation, blocks))}" if any(count != 1 for _, count in pairs) else ""
+    return f"capacity {capacity}, {len(pairs)} sizes{number}{sizes}\n"
+
+
+def block_line(capacity, blocks, *steps):
+    floors, total = run_blocks(capacity, blocks, *steps)
+    return f"blocks: {' '.join(map(str, floors))}, total {total}\n" if len(blocks) > 1 else ""
+
+
+def half_line(capacity, family, p):
+    half = (capacity + 1) // 2
+    _, image, scale = wf.image(capacity, family, p, 0, half)
+    return f"one more size of {half} would add {image} to a sum that is divided by {scale}\n"
 
 
 def expected(words):
-    capacity, pairs = int(words[0]), [pair(word) for word in words[1:]]
+    capacity, blocks = int(words[0]), in_blocks(words[1:])
     if capacity >= 2**32:
         return refused(1)
-    refusal, _, without, *_ = run_job(counted_job(capacity, pairs))[0]
+    refusal, _, without, *_ = run_job(floor_job(capacity, blocks))[0]
     if refusal:
         return refused(refusal)
+    pairs = together(blocks)
     lines, best, step = sweeps(capacity, pairs, without)
-    cut, images = run_cut(capacity, apart(pairs)[0], *([step] if step else []))
-    text = listed(capacity, pairs) + f"  {FAMILIES[0]:<19}           floor {without}\n{lines}"
+    steps = [step] if step else []
+    cut, images = run_cut(capacity, apart(pairs)[0], *steps)
+    text = listed(capacity, blocks) + f"  {FAMILIES[0]:<19}           floor {without}\n{lines}"
     text += f"best floor {best}: {FAMILIES[step[0]]}, p = {step[1]}\n" if step else f"best floor {best}: no step\n"
-    text += "cut:" + inequality(images, cut[4])
-    if step:
-        half = (capacity + 1) // 2
-        _, image, scale = wf.image(capacity, *step, 0, half)
-        text += f"one more size of {half} would add {image} to a sum that is divided by {scale}\n"
-    return text
+    text += block_line(capacity, blocks, *steps) + "cut:" + inequality(images, cut[4])
+    return text + half_line(capacity, *step) if step else text
 
 
 def expected_rows(rows, steps):
@@ -213,7 +267,7 @@ def expected_rows(rows, steps):
 
 def runs():
     """The arguments that planner.sh gives, and what is printed."""
-    for line in LISTS + COUNTED + REFUSED + REFUSED_COUNTS:
+    for line in LISTS + COUNTED + IN_BLOCKS + REFUSED + REFUSED_COUNTS + REFUSED_BLOCKS:
         words = (FOLDER / line).read_text() if line.endswith(".txt") else line
         yield line, expected(words.split())
     for line, message in WRONG_ARGUMENTS:

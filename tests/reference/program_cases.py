@@ -51,18 +51,20 @@ def example_cases():
 
 
 def job_cases(jobs):
-    for data in jobs:
-        yield f"job {data[:40].hex()}", run(data), wf.program(data)
+    for data, printed in jobs.items():
+        yield f"job {data[:40].hex()}", run(data), printed
 
 
-def longest_accepted(jobs, kind):
-    return max((data for data in jobs if data[3:4] == kind and b"refused" not in wf.program(data)), key=len)
+def longest_with(jobs, kind, word):
+    """The longest job of a kind that prints a line of this word."""
+    return max((data for data, printed in jobs.items() if data[3:4] == kind and word in printed), key=len)
 
 
 def longer_cases(jobs):
-    """Input that starts with a longest accepted job: it is refused and not cut short."""
-    for kind, printed in ((b"\1", b"refused 12 0\n"), (b"\3", b"refused 12 0 0\n")):
-        longest = longest_accepted(jobs, kind)
+    """Input that starts with a longest accepted job, also with blocks: it is refused and not cut short."""
+    for kind, word, printed in ((b"\1", b"floor", b"refused 12 0\n"), (b"\1", b"blocks", b"refused 12 0\n"),
+                                (b"\3", b"scale", b"refused 12 0 0\n")):
+        longest = longest_with(jobs, kind, word)
         assert len(longest) > MOST_BYTES - 16
         for more in (1, 2, 12, 20_000, 200_000):
             data = longest + bytes(MOST_BYTES - len(longest) + more)
@@ -71,8 +73,9 @@ def longer_cases(jobs):
 
 def piece_cases(jobs):
     of_rows = [data for data in jobs if data[:4] == b"\1\0\1\3" and len(data) < 500]
-    for data in jobs[:40] + of_rows[-40:]:
-        yield f"pieces of {data[:40].hex()}", run_in_pieces(data, 7), wf.program(data)
+    of_blocks = [data for data, printed in jobs.items() if b"blocks" in printed and len(data) < 300]
+    for data in list(jobs)[:40] + of_rows[-40:] + of_blocks[-40:]:
+        yield f"pieces of {data[:40].hex()}", run_in_pieces(data, 7), jobs[data]
 
 
 def unreadable():
@@ -83,7 +86,7 @@ def unreadable():
 
 
 def main():
-    jobs = list(dict.fromkeys(job_of(case) for case in all_cases()))
+    jobs = {data: wf.program(data) for data in dict.fromkeys(map(job_of, all_cases()))}
     cases = 0
     failed = 0
     for part in (example_cases(), job_cases(jobs), longer_cases(jobs), piece_cases(jobs), unreadable()):

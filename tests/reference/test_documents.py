@@ -124,16 +124,27 @@ class Jobs(unittest.TestCase):
         refused = {int(printed.split()[1]) for _, printed in counted if "refused" in printed}
         self.assertLessEqual({14, 15, 17, 22}, refused)
 
+    def test_cases_of_blocks(self):
+        """Jobs with blocks: accepted with and without counts and a step, and each refusal that blocks can bring."""
+        blocks = [(data, printed) for data, printed in self.cases() if re.search(rb"\x08\x00[\x00-\x06]", data)]
+        accepted = [data for data, printed in blocks if " / blocks" in printed]
+        self.assertTrue(any(b"\7\0" in data and b"\4\0\x09" in data for data in accepted))
+        self.assertTrue(any(b"\7\0" not in data for data in accepted))
+        refused = {int(printed.split()[1]) for _, printed in blocks if "refused" in printed}
+        self.assertLessEqual({14, 15, 17, 22, 23}, refused)
+
     def test_tags(self):
         documented = [row for row in rows(section("4.1 ")) if row[0].isdigit()]
-        self.assertEqual([int(row[0]) for row in documented], list(range(wf.KIND, wf.COUNTS + 1)))
-        for tag, cell, _ in documented[:-1]:
+        self.assertEqual([int(row[0]) for row in documented], list(range(wf.KIND, wf.BLOCKS + 1)))
+        for tag, cell, _ in documented:
+            if int(tag) == wf.COUNTS:
+                continue  # its length goes by the number of sizes
             due = {length for length in range(65_536) if wf.length_right(int(tag), length)}
             self.assertEqual(right_lengths(cell), due, tag)
 
     def test_lengths_of_counts(self):
         """The length of tag 7 in 4.1 is so many bytes for each size."""
-        tag, cell, _ = [row for row in rows(section("4.1 ")) if row[0].isdigit()][-1]
+        tag, cell, _ = next(row for row in rows(section("4.1 ")) if row[0] == str(wf.COUNTS))
         factor = int(re.fullmatch(r"(\d) × n, for the n of the tag 3 field", cell).group(1))
         for n in (0, 1, 2, 100):
             before = [(wf.SIZES, bytes(4 * n))]
@@ -196,7 +207,7 @@ class Names(unittest.TestCase):
             name = row[1].strip("`")
             self.assertEqual((in_header[name], getattr(wf, name)), (row[0], int(row[0])))
         last = int(re.search(r"#define WINDOWFLOOR_LAST_REFUSAL (\d+)", HEADER).group(1))
-        self.assertEqual(last, wf.COUNT_0)
+        self.assertEqual(last, wf.BAD_BLOCKS)
         self.assertEqual([int(row[0]) for row in documented], list(range(1, last + 1)))
 
     def test_limits(self):
@@ -219,7 +230,7 @@ class Names(unittest.TestCase):
         self.assertEqual(len(documented), 4)
         for name, fields in documented.items():
             self.assertEqual(fields.split(", "), re.findall(r"uint64_t (\w+);", declared[name]), name)
-        self.assertIn("row", documented["windowfloor_job_answer"].split(", "))
+        self.assertLessEqual({"row", "total"}, set(documented["windowfloor_job_answer"].split(", ")))
 
     def test_version(self):
         version = re.search(r'#define WINDOWFLOOR_VERSION "([^"]+)"', HEADER).group(1)

@@ -1,16 +1,19 @@
 """Tests of what examples/planner.c takes for granted: from 1 on, the p of a
 family that are legal with a scale within the limit are one run of numbers that
 begins with 1 or 2, or there are none. Of what planner_cases.py takes for
-granted: a job of rows gives the cuts of as many jobs of one row. And of lists
-with counts, which have the floors of all their copies."""
+granted: a job of rows gives the cuts of as many jobs of one row. Of lists with
+counts, which have the floors of all their copies. And of lists in blocks, whose
+floors are those of the blocks as lists of their own."""
 
 import unittest
 from unittest import mock
 
+import planner_cases
 import windowfloor as wf
-from job_bytes import counted_job, family, field
+from job_bytes import counted_job, family, field, lent
 from planner_cases import (
-    COUNTED, FILES, MODEL, MODELS, expected, expected_rows, greatest_p, notation, pair, run_cut, run_job, sweeps)
+    COUNTED, FILES, IN_BLOCKS, MODEL, MODELS, expected, expected_rows, greatest_p, in_blocks, notation, pair, run_cut,
+    run_job, sweeps)
 
 FAMILIES = range(1, 6)
 
@@ -50,10 +53,10 @@ class LegalParameters(unittest.TestCase):
 
 def run_rows(rows, steps):
     """The numbers of the answer, the images and the scales of one job of kind 3."""
-    images, working, listed, scales = [0] * 2048, [0] * 2048, [0] * 2047, [0] * 64
+    images, working, listed, scales, blocks = lent()
     fields = [field(6, b"".join(number.to_bytes(4, "big") for number in row)) for row in rows]
     data = field(1, b"\3") + b"".join(fields + [family(*step) for step in steps])
-    numbers = wf.job(data, images, working, listed, scales)
+    numbers = wf.job(data, images, working, listed, scales, blocks)
     return numbers, images[:numbers[1]], scales[:len(rows)]
 
 
@@ -78,7 +81,7 @@ row 4: 6 x1 + 3 x2 <= 7
         if first == 0:
             self.assertEqual(images, sum((of_row for _, of_row in cuts), []))
             self.assertEqual(scales, [cut[4] for cut, _ in cuts])
-        refused = cuts[first - 1][0] if first else (0,) * 8
+        refused = cuts[first - 1][0] if first else (0,) * 9
         self.assertEqual((numbers[0], numbers[5], numbers[7]), (refused[0], refused[5], first))
 
     def test_one_job_of_rows(self):
@@ -116,6 +119,54 @@ class Counts(unittest.TestCase):
         """It shows what it reads, without a count of 1."""
         self.assertEqual([pair("5"), pair("5x1"), pair("5x300")], [(5, 1), (5, 1), (5, 300)])
         self.assertEqual(notation([(5, 1), (5, 300), (7, 0)]), "5 5x300 7x0")
+
+
+def best_step(line):
+    """The step that a line `best floor` names, if there is one."""
+    name, _, p = line.split(": ")[1].partition(", p = ")
+    return [family(planner_cases.FAMILIES.index(name), int(p))] if p else []
+
+
+class Blocks(unittest.TestCase):
+    LINES = IN_BLOCKS + tuple(words for name, words in FILES if name in ("blocks.txt", "most_blocks.txt"))
+
+    def setUp(self):
+        """Which step is the best does not matter here: fewer are tried."""
+        fewer = mock.patch.object(planner_cases, "MOST_TRIED", 64)
+        fewer.start()
+        self.addCleanup(fewer.stop)
+
+    def test_reckoned_by_hand(self):
+        """Family 1 with p = 4 turns 7 into 10 and leaves 5: sums of 15, 15 and 5, and of 35 for the whole list."""
+        text = expected("10 7 5 / 7 5 / 5".split()).splitlines()
+        self.assertEqual(text[0], "capacity 10, 5 sizes, 3 blocks")
+        self.assertEqual(text[7:10], ["best floor 4: threshold, p = 4", "blocks: 2 2 1, total 5",
+                                      "cut: 10 x1 + 5 x2 + 10 x3 + 5 x4 + 5 x5 <= 10"])
+
+    def test_blocks_as_lists_of_their_own(self):
+        for line in self.LINES:
+            capacity, *words = line.split()
+            text = expected(line.split()).splitlines()
+            jobs = [counted_job(int(capacity), block, *best_step(text[7])) for block in in_blocks(words)]
+            floors = [run_job(data)[0][2] for data in jobs]
+            with self.subTest(line=line):
+                self.assertEqual(text[8], f"blocks: {' '.join(map(str, floors))}, total {sum(floors)}")
+
+    def test_nothing_else_than_without_blocks(self):
+        for line in self.LINES:
+            number = f", {line.count('/') + 1} blocks"
+            first, *others = expected(line.split()).splitlines()
+            with self.subTest(line=line):
+                self.assertIn(number, first)
+                self.assertEqual([first.replace(number, "").replace(" /", ""), *others[:7], *others[8:]],
+                                 expected(line.replace(" /", "").split()).splitlines())
+
+    def test_notation(self):
+        """It shows what it reads; a block may be without sizes, and without any / there is one block."""
+        self.assertEqual(in_blocks("/ 5x300 7 / /".split()), [[], [(5, 300), (7, 1)], [], []])
+        self.assertEqual([in_blocks([]), in_blocks(["5"])], [[[]], [[(5, 1)]]])
+        self.assertEqual(expected("10 5 5x300 / 7 / 3x2".split()).splitlines()[0],
+                         "capacity 10, 4 sizes, 3 blocks: 5 5x300 / 7 / 3x2")
 
 
 if __name__ == "__main__":

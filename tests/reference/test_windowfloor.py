@@ -1,7 +1,7 @@
 """Tests of the reference: the examples of the scope document ("01"), values
 reckoned by hand from it and from the change requests for many rows, for tables
-of another capacity, for counts and for half of an odd window ("02", tickets 1,
-2, 4 and 5), and brute force over small capacities."""
+of another capacity, for counts, for half of an odd window and for blocks ("02",
+tickets 1, 2, 4, 5 and 6), and brute force over small capacities."""
 
 import random
 import unittest
@@ -9,16 +9,17 @@ from functools import lru_cache
 
 import windowfloor as wf
 from job_bytes import (
-    apart, bad_tables, counted_job, counts, family as family_step, field, job as make_job, random_pairs, row, rows_job,
-    table as table_step, word, written_out)
+    apart, bad_tables, blocked_job, blocks, counted_blocked_job, counted_job, counts, family as family_step, field,
+    job as make_job, random_groups, random_pairs, row, rows_job, table as table_step, together, word, written_out)
 
 LIMIT = 1_000_000_000
 MARK = 77  # fills places that have to stay
-PLACES = 2050  # of each buffer but the scales'
+PLACES = 2050  # of the buffers of images, working numbers and lists
+SHORTER = [MARK] * 66  # the buffers of scales and of block floors, with nothing written
 
 
 def buffers():
-    return [MARK] * PLACES, [MARK] * PLACES, [MARK] * PLACES, [MARK] * 66
+    return [MARK] * PLACES, [MARK] * PLACES, [MARK] * PLACES, list(SHORTER), list(SHORTER)
 
 
 def answer(data):
@@ -26,7 +27,17 @@ def answer(data):
 
 
 def refused(number, step=0, length=0, row=0):
-    return number, 0, 0, 0, 0, step, length, row
+    return number, 0, 0, 0, 0, step, length, row, 0
+
+
+def floored(n, floor, image_sum, scale):
+    """A floor job accepted without blocks: the total is the floor."""
+    return 0, n, floor, image_sum, scale, 0, 0, 0, floor
+
+
+def strengthened(n, scale=0):
+    """A cut accepted; of many rows the scale is 0."""
+    return 0, n, 0, 0, scale, 0, 0, 0, 0
 
 
 # Brute force
@@ -59,6 +70,19 @@ def least_windows(sizes, capacity):
                 tried.append(place(rest[1:], loads[:i] + [load + rest[0]] + loads[i + 1:]))
         return min(tried)
     return place(sizes, [])
+
+
+def assignments(copies, capacity):
+    """All assignments that fit, as a window for each copy; windows have the numbers of their first use."""
+    def place(rest, loads, chosen):
+        if not rest:
+            yield chosen
+            return
+        for window, load in enumerate(loads + [0]):
+            if load + rest[0] <= capacity:
+                after = loads[:window] + [load + rest[0]] + loads[window + 1:]
+                yield from place(rest[1:], after, chosen + [window])
+    return place(copies, [], [])
 
 
 def legal_parameters(capacity, families=range(1, 8), most_q=14):
@@ -153,9 +177,8 @@ class Reckoning(unittest.TestCase):
 
     def test_jobs(self):
         sizes = [6, 6, 6]
-        self.assertEqual(answer(make_job(1, 10, sizes)), (0, 3, 2, 18, 10, 0, 0, 0))
-        self.assertEqual(answer(make_job(1, 10, sizes, family_step(1, 5))),
-                         (0, 3, 3, 30, 10, 0, 0, 0))
+        self.assertEqual(answer(make_job(1, 10, sizes)), floored(3, 2, 18, 10))
+        self.assertEqual(answer(make_job(1, 10, sizes, family_step(1, 5))), floored(3, 3, 30, 10))
         self.assertEqual(answer(b""), refused(14))
 
     def test_program(self):
@@ -298,10 +321,10 @@ class Refusals(unittest.TestCase):
 
     def refusals(self, cases):
         for data, expected in cases:
-            images, working, lst, scales = buffers()
+            images, working, lst, *shorter = buffers()
             with self.subTest(data=data[:60].hex()):
-                self.assertEqual(wf.job(data, images, working, lst, scales), expected)
-                self.assertEqual((images, scales), ([MARK] * PLACES, [MARK] * 66))
+                self.assertEqual(wf.job(data, images, working, lst, *shorter), expected)
+                self.assertEqual((images, shorter), ([MARK] * PLACES, [SHORTER] * 2))
                 self.assertEqual(lst[expected[6]:], [MARK] * (PLACES - expected[6]))
 
 
@@ -309,16 +332,17 @@ class Jobs(Refusals):
 
     def test_buffers_and_length(self):
         """Each too short by one place, for every kind; the length of the job comes first."""
-        enough = 2048, 2048, 2047, 64
-        jobs = [(b"", refused(14)), (bytes(65535), refused(14)), (make_job(1, 10, []), (0, 0, 0, 0, 10, 0, 0, 0)),
-                (make_job(2, 10, []), (0, 0, 0, 0, 10, 0, 0, 0)), (rows_job([(10,)]), (0,) * 8)]
+        enough = 2048, 2048, 2047, 64, 64
+        jobs = [(b"", refused(14)), (bytes(65535), refused(14)), (make_job(1, 10, []), floored(0, 0, 0, 10)),
+                (make_job(2, 10, []), strengthened(0, 10)), (rows_job([(10,)]), strengthened(0)),
+                (make_job(1, 10, [7], blocks(1)), floored(1, 1, 7, 10)), (make_job(4, 10, []), refused(16))]
         for data, expected in jobs:
             self.assertEqual(wf.job(data, *([0] * places for places in enough)), expected)
-            for short in range(4):
+            for short in range(5):
                 lent = [[0] * (places - (which == short)) for which, places in enumerate(enough)]
                 self.assertEqual(wf.job(data, *lent), refused(7))
-        self.assertEqual(wf.job(bytes(65536), [], [], [], []), refused(12))
-        self.assertEqual(wf.job(bytes(65535), [], [], [], []), refused(7))
+        self.assertEqual(wf.job(bytes(65536), [], [], [], [], []), refused(12))
+        self.assertEqual(wf.job(bytes(65535), [], [], [], [], []), refused(7))
 
     def test_fields(self):
         head = make_job(1, 10, [1])
@@ -345,7 +369,7 @@ class Jobs(Refusals):
             (make_job(1, 0, [1], step), refused(1)), (make_job(2, LIMIT + 1, [0]), refused(1)),
             (make_job(1, 10, [11], step), refused(17)), (make_job(1, 10, [0], step), refused(17)),
             (make_job(2, 10, [0, 11]), refused(17))])
-        self.assertEqual(answer(make_job(2, 10, [0, 10])), (0, 2, 0, 0, 10, 0, 0, 0))
+        self.assertEqual(answer(make_job(2, 10, [0, 10])), strengthened(2, 10))
 
     def test_steps(self):
         ok = family_step(1, 3)
@@ -360,12 +384,12 @@ class Jobs(Refusals):
             (make_job(1, 10, [1], ok, table_step(0, 1, 2, 3)), refused(18, 2))])
 
     def test_accepted_chain_and_places_that_stay(self):
-        for kind, floor, total in ((1, 1, 5), (2, 0, 0)):
-            images, working, lst, scales = buffers()
+        for kind, expected in ((1, floored(3, 1, 5, 5)), (2, strengthened(3, 5))):
+            images, working, lst, *shorter = buffers()
             data = make_job(kind, 5, [1, 4, 5], table_step(0, 1, 1, 1, 1, 5), family_step(2, 1))
-            self.assertEqual(wf.job(data, images, working, lst, scales), (0, 3, floor, total, 5, 0, 0, 0))
+            self.assertEqual(wf.job(data, images, working, lst, *shorter), expected)
             self.assertEqual(images, [0, 0, 5] + [MARK] * 2047)
-            self.assertEqual((len(working), lst, scales), (PLACES, [MARK] * PLACES, [MARK] * 66))
+            self.assertEqual((len(working), lst, shorter), (PLACES, [MARK] * PLACES, [SHORTER] * 2))
 
     def test_floors_are_safe(self):
         rng = random.Random(2)
@@ -373,18 +397,18 @@ class Jobs(Refusals):
             capacity = rng.randint(1, 12)
             sizes = [rng.randint(1, capacity) for _ in range(rng.randint(0, 6))]
             data = make_job(1, capacity, sizes, *random_chain(rng, capacity))
-            number, n, floor, total, scale, step, length, row = answer(data)
-            self.assertEqual((number, n, step, length, row), (0, len(sizes), 0, 0, 0))
-            self.assertEqual(floor, -(-total // scale))
+            number, n, floor, image_sum, scale, step, length, row, total = answer(data)
+            self.assertEqual((number, n, step, length, row, total), (0, len(sizes), 0, 0, 0, floor))
+            self.assertEqual(floor, -(-image_sum // scale))
             self.assertLessEqual(floor, least_windows(sizes, capacity))
 
     def test_cuts_hold(self):
         rng = random.Random(3)
         for _ in range(150):
             capacity = rng.randint(1, 9)
-            images, working, lst, scales = buffers()
+            images, *others = buffers()
             data = make_job(2, capacity, range(capacity + 1), *random_chain(rng, capacity))
-            number, n, _, _, scale, _, _, _ = wf.job(data, images, working, lst, scales)
+            number, n, _, _, scale, *_ = wf.job(data, images, *others)
             self.assertEqual((number, n, images[0]), (0, capacity + 1, 0))
             for sizes in fitting(capacity):
                 self.assertLessEqual(sum(images[x] for x in sizes), scale)
@@ -420,7 +444,7 @@ class RowGrammar(Refusals):
     def test_lengths(self):
         for length in range(10):
             data = KIND_3 + field(6, (word(10) + word(3) + bytes(2))[:length])
-            expected = {4: (0,) * 8, 8: (0, 1) + (0,) * 6}.get(length, refused(15))
+            expected = {4: strengthened(0), 8: strengthened(1)}.get(length, refused(15))
             with self.subTest(length=length):
                 self.assertEqual(answer(data), expected)
 
@@ -439,18 +463,18 @@ class RowGrammar(Refusals):
             (rows_job([(0,) * 2050]) + field(4, bytes(8)), refused(15))])
         for rows, n in (([(10,)] * 64, 0), ([(10,) * 2049], 2048), ([(10,) * 33] * 64, 2048),
                         ([(10,) * 2049] + [(10,)] * 63, 2048)):
-            self.assertEqual(answer(rows_job(rows)), (0, n, 0, 0, 0, 0, 0, 0))
+            self.assertEqual(answer(rows_job(rows)), strengthened(n))
 
 
 class Rows(Refusals):
     """02, ticket 1: rows judged one after the other."""
 
     def accepted(self, data, images, scales):
-        lent_images, working, lst, lent_scales = buffers()
-        self.assertEqual(wf.job(data, lent_images, working, lst, lent_scales), (0, len(images), 0, 0, 0, 0, 0, 0))
+        lent_images, working, lst, lent_scales, floors = buffers()
+        self.assertEqual(wf.job(data, lent_images, working, lst, lent_scales, floors), strengthened(len(images)))
         self.assertEqual(lent_images, images + [MARK] * (PLACES - len(images)))
         self.assertEqual(lent_scales, scales + [MARK] * (66 - len(scales)))
-        self.assertEqual(lst, [MARK] * PLACES)
+        self.assertEqual((lst, floors), ([MARK] * PLACES, SHORTER))
 
     def test_accepted(self):
         """Row 2 by hand: 9 4 5 stay at capacity 9, and their mirrored quotients are 6, 2 and 6 - 2."""
@@ -505,13 +529,13 @@ class Rows(Refusals):
         """What kind 2 gives row by row, as kind 3 has to say it."""
         images, scales = [], []
         for place, (right, *coefficients) in enumerate(rows, start=1):
-            lent_images, working, lst, unused = buffers()
-            found = wf.job(make_job(2, right, coefficients, *steps), lent_images, working, lst, unused)
+            lent_images, working, lst, *unused = buffers()
+            found = wf.job(make_job(2, right, coefficients, *steps), lent_images, working, lst, *unused)
             if found[0] != 0:
-                return found[:7] + (place,), [], [], lst
+                return found[:7] + (place, 0), [], [], lst
             images += lent_images[:found[1]]
             scales.append(found[4])
-        return (0, len(images), 0, 0, 0, 0, 0, 0), images, scales, [MARK] * PLACES
+        return strengthened(len(images)), images, scales, [MARK] * PLACES
 
     def random_row(self, rng, capacity):
         right = rng.choice((capacity, capacity, rng.randint(0, 12)))
@@ -524,14 +548,14 @@ class Rows(Refusals):
             capacity = rng.randint(1, 12)
             steps = random_chain(rng, capacity)
             rows = [self.random_row(rng, capacity) for _ in range(rng.randint(1, 4))]
-            images, working, lst, scales = buffers()
-            found = wf.job(rows_job(rows, *steps), images, working, lst, scales)
+            images, working, lst, scales, floors = buffers()
+            found = wf.job(rows_job(rows, *steps), images, working, lst, scales, floors)
             expected, due_images, due_scales, due_list = self.one_by_one(rows, steps)
             with self.subTest(rows=rows, steps=steps):
                 self.assertEqual(found, expected)
                 self.assertEqual(images, due_images + [MARK] * (PLACES - len(due_images)))
                 self.assertEqual(scales, due_scales + [MARK] * (66 - len(due_scales)))
-                self.assertEqual(lst, due_list)
+                self.assertEqual((lst, floors), (due_list, SHORTER))
             outcomes.add((found[0], found[7] > 1))
         self.assertLessEqual({(0, False), (1, True), (3, True), (17, False), (17, True), (18, True)}, outcomes)
 
@@ -541,9 +565,9 @@ class Rows(Refusals):
             first = rng.randint(4, 9)
             steps = random_chain(rng, first)
             rights = [right for right in range(1, 10) if answer(make_job(2, right, [], *steps))[0] == 0]
-            images, working, lst, scales = buffers()
+            images, working, lst, scales, floors = buffers()
             data = rows_job([(right, *range(right + 1)) for right in rights], *steps)
-            self.assertEqual(wf.job(data, images, working, lst, scales)[0], 0)
+            self.assertEqual(wf.job(data, images, working, lst, scales, floors)[0], 0)
             at = 0
             for right, scale in zip(rights, scales):
                 for sizes in fitting(right):
@@ -611,7 +635,7 @@ class OtherCapacity(Refusals):
                 (rows_job(rows, other, right), refused(18, 1, row=1))])
 
     def test_what_comes_before(self):
-        short = [MARK] * 2048, [MARK] * 2048, [MARK] * 2046, [MARK] * 64
+        short = [MARK] * 2048, [MARK] * 2048, [MARK] * 2046, [MARK] * 64, [MARK] * 64
         for table in bad_tables(9):
             self.assertEqual(wf.job(make_job(1, 10, [3], table), *short), refused(7))
             self.refusals([
@@ -647,7 +671,7 @@ class CountGrammar(Refusals):
             (head + good[:1], refused(13)), (head + good[:2], refused(13)), (head + good[:-1], refused(13)),
             (head + field(7, b"", 65_535), refused(13)), (head + step + good[:-1], refused(13)),
             (head + good + good[:-1], refused(13)), (head[:11] + good[:-1], refused(13))])
-        self.assertEqual(answer(head + good + step * 8), (0, 2, 3, 29, 10, 0, 0, 0))
+        self.assertEqual(answer(head + good + step * 8), floored(2, 3, 29, 10))
 
     def test_other_kinds(self):
         """Whatever its length, and also where 16 or 21 would come."""
@@ -666,7 +690,7 @@ class CountGrammar(Refusals):
         for n, floor in enumerate(floors):
             for length in range(17):
                 data = make_job(1, 10, [5] * n, field(7, b"\1" * length))
-                expected = (0, n, floor, 1285 * n, 10, 0, 0, 0) if length == 2 * n else refused(15)
+                expected = floored(n, floor, 1285 * n, 10) if length == 2 * n else refused(15)
                 with self.subTest(n=n, length=length):
                     self.assertEqual(answer(data), expected)
         for length in (4094, 4095, 4097, 4098, 8192):
@@ -692,21 +716,21 @@ class Counts(Refusals):
                 (10, [], to_six, 0, 0, 6)]:
             with self.subTest(pairs=pairs, steps=steps):
                 self.assertEqual(answer(counted_job(capacity, pairs, *steps)),
-                                 (0, len(pairs), floor, total, scale, 0, 0, 0))
+                                 floored(len(pairs), floor, total, scale))
 
     def test_largest_sum(self):
         """134,215,680 copies are 2,048 times 65,535."""
-        largest = 0, 2048, 134_215_680, 134_215_680 * LIMIT, LIMIT, 0, 0, 0
+        largest = floored(2048, 134_215_680, 134_215_680 * LIMIT, LIMIT)
         self.assertEqual(answer(counted_job(LIMIT, [(LIMIT, 65_535)] * 2048)), largest)
         self.assertEqual(answer(counted_job(1, [(1, 65_535)] * 2048, table_step(0, LIMIT))), largest)
 
     def test_places_that_stay(self):
         """One image for each size."""
-        images, working, lst, scales = buffers()
+        images, working, lst, *shorter = buffers()
         data = counted_job(10, [(7, 300), (5, 2), (7, 1)], family_step(1, 4))
-        self.assertEqual(wf.job(data, images, working, lst, scales), (0, 3, 302, 3020, 10, 0, 0, 0))
+        self.assertEqual(wf.job(data, images, working, lst, *shorter), floored(3, 302, 3020, 10))
         self.assertEqual(images, [10, 5, 10] + [MARK] * 2047)
-        self.assertEqual((lst, scales), ([MARK] * PLACES, [MARK] * 66))
+        self.assertEqual((lst, shorter), ([MARK] * PLACES, [SHORTER] * 2))
 
     def test_counts_of_0(self):
         step = family_step(1, 3)
@@ -728,7 +752,7 @@ class Counts(Refusals):
             (start + b"\4", refused(13)), (start + step[:-1], refused(13)), (start + counts(0), refused(14)),
             (start + step * 9, refused(14)), (start + field(4, bytes(8)), refused(15)),
             (start + step + field(5, bytes(4)), refused(15))])
-        self.assertEqual(wf.job(start, [0] * 2047, [0] * 2048, [0] * 2047, [0] * 64), refused(7))
+        self.assertEqual(wf.job(start, [0] * 2047, [0] * 2048, [0] * 2047, [0] * 64, [0] * 64), refused(7))
 
     def test_what_comes_behind(self):
         """Every sort of refused step."""
@@ -784,9 +808,9 @@ class HalfWindows(Refusals):
     """02, ticket 5: at each step the present capacity counts."""
 
     def accepted(self, data, images, floor, total, scale):
-        lent_images, working, lst, scales = buffers()
-        numbers = 0, len(images), floor, total, scale, 0, 0, 0
-        self.assertEqual(wf.job(data, lent_images, working, lst, scales), numbers)
+        lent_images, *others = buffers()
+        numbers = floored(len(images), floor, total, scale)
+        self.assertEqual(wf.job(data, lent_images, *others), numbers)
         self.assertEqual(lent_images[:len(images) + 1], images + [MARK])
 
     def test_first_step(self):
@@ -813,12 +837,300 @@ class HalfWindows(Refusals):
             (make_job(1, 5, [3], family_step(1, 3, 1)), refused(3, 1))])
 
     def test_rows(self):
-        lent_images, working, lst, scales = buffers()
+        lent_images, working, lst, scales, floors = buffers()
         rows, step = [(5, 3, 2), (6, 3, 4), (7, 4, 5)], family_step(1, 3)
-        self.assertEqual(wf.job(rows_job(rows, step), lent_images, working, lst, scales), (0, 6, 0, 0, 0, 0, 0, 0))
+        self.assertEqual(wf.job(rows_job(rows, step), lent_images, working, lst, scales, floors), strengthened(6))
         self.assertEqual((lent_images[:6], scales[:3]), ([5, 0, 3, 6, 4, 7], [5, 6, 7]))
         self.refusals([(rows_job(rows + [(4, 0)], step), refused(3, 1, row=4)),
                        (rows_job([(7, 1), (6, 0)], family_step(1, 4)), refused(3, 1, row=2))])
+
+
+class BlockGrammar(Refusals):
+    """02, ticket 6: tag 8 comes right after tag 3 or tag 7 where the kind byte is 1, with two bytes for each block."""
+
+    def test_places(self):
+        head, good, step, each = make_job(1, 10, [7, 5]), blocks(1, 1), family_step(1, 3), counts(2, 3)
+        self.refusals([
+            (good + head, refused(14)), (head[:4] + good, refused(14)), (head[:4] + good + head[4:], refused(14)),
+            (head[:11] + good, refused(14)), (head[:11] + good + head[11:], refused(14)),
+            (head + step + good, refused(14)), (head + each + step + good, refused(14)),
+            (head + good + good, refused(14)), (head + good + blocks(), refused(14)),
+            (head + good + step + good, refused(14)), (head + good + each, refused(14)),
+            (head + good + each + good, refused(14)), (head + each + good + each, refused(14)),
+            (head + each + good + good, refused(14)), (head + good + head[:4], refused(14)),
+            (head + good + row(10, 5), refused(14)), (head + good + step * 9, refused(14)),
+            (head + b"\x08", refused(13)), (head + b"\x08\0", refused(13)), (head + good[:-1], refused(13)),
+            (head + each + good[:-1], refused(13)), (head + field(8, b"", 65_534), refused(13)),
+            (head + step + good[:-1], refused(13)), (head[:11] + good[:-1], refused(13)),
+            (head + good + good[:-1], refused(13)), (head + good + step[:-1], refused(13))])
+        for part, sums in ((good, (2, 2, 12, 10)), (each + good, (2, 3, 29, 10))):
+            for steps in (b"", step * 8):
+                self.assertEqual(answer(head + part + steps)[:5], (0,) + sums)
+
+    def test_other_kinds(self):
+        """Whatever its length, and also where 16 or 21 would come."""
+        for kind in (0, 2, 4, 7, 8, 255):
+            head = make_job(kind, 10, [5])
+            self.refusals([(head + blocks(1), refused(14)), (head + blocks(), refused(14)),
+                           (head + field(8, b"\0"), refused(14)), (head + blocks(1)[:-1], refused(13)),
+                           (head + blocks(1) + family_step(1, 3), refused(14)),
+                           (head + counts(1) + blocks(1), refused(14)),
+                           (make_job(kind, 10, []) + blocks(), refused(14))])
+        for end in (blocks(), blocks(1), row(10, 5) + blocks(1), row(10, 5) + blocks() + row(10, 5),
+                    row(10, 5) + family_step(1, 3) + blocks(1), blocks(1) + row(10, 5), field(8, b"\0")):
+            self.refusals([(KIND_3 + end, refused(14))])
+
+    def test_lengths(self):
+        """Blocks of one size each: an even length passes, and the number of blocks is judged later."""
+        for length in range(18):
+            data = make_job(1, 10, [7] * (length // 2), field(8, (b"\0\1" * 9)[:length]))
+            with self.subTest(length=length):
+                self.assertEqual(answer(data)[0], 15 if length % 2 else 0)
+        for before in ((), (counts(1),)):
+            head = make_job(1, 10, [7], *before)
+            for length, number in ((129, 15), (130, 23), (255, 15), (256, 23), (65_001, 15), (65_002, 23)):
+                self.refusals([(head + field(8, bytes(length)), refused(number))])
+
+    def test_15_comes_first(self):
+        odd = field(8, b"\0\1\0")
+        for data in (make_job(1, 0, [5], odd), make_job(1, 10, [11], odd), make_job(1, 10, [5], counts(0), odd),
+                     make_job(1, 10, [5], odd, family_step(8, 0))):
+            self.refusals([(data, refused(15))])
+
+
+class BlockRefusals(Refusals):
+    """02, ticket 6: 23, and its place among the others."""
+
+    def test_no_sizes(self):
+        """A block of 0, at every place and alone, also where the others add up."""
+        for n, numbers in [(0, (0,)), (0, (0, 0)), (1, (0,)), (1, (0, 1)), (1, (1, 0)), (2, (1, 0, 1)), (2, (0, 2)),
+                           (2, (2, 0)), (3, (1, 2, 0)), (300, (44, 0, 256))]:
+            self.refusals([(make_job(1, 10, [7] * n, blocks(*numbers)), refused(23)),
+                           (counted_job(10, [(7, 3)] * n, blocks(*numbers)), refused(23))])
+
+    def test_sums(self):
+        """One less and one more than n, and numbers that add up to n only where 65,536 is lost."""
+        for n, numbers in [(1, ()), (2, ()), (3, (2,)), (3, (4,)), (3, (1, 1)), (3, (2, 2)), (3, (1, 1, 2)),
+                           (0, (1,)), (2048, (2047,)), (2048, (2049,)), (2048, (32,) * 63 + (31,)),
+                           (2048, (32,) * 63 + (33,)), (1, (65_535, 2)), (0, (65_535, 1)), (0, (32_768, 32_768)),
+                           (1, (32_768, 32_768, 1)), (1, (65_535, 65_535, 3)), (3, (2, 65_535, 2)),
+                           (0, (1024,) * 64), (2048, (1056,) * 64), (5, (65_535,)), (256, (1,)), (1, (256,))]:
+            self.refusals([(make_job(1, 10, [7] * n, blocks(*numbers)), refused(23))])
+
+    def test_numbers_of_blocks(self):
+        """64 pass; 65 do not, whatever they add up to."""
+        self.assertEqual(answer(make_job(1, 10, [7] * 64, blocks(*[1] * 64))), (0, 64, 45, 448, 10, 0, 0, 0, 64))
+        self.assertEqual(answer(make_job(1, 10, [7] * 2048, blocks(*[32] * 64))),
+                         (0, 2048, 1434, 14_336, 10, 0, 0, 0, 64 * 23))
+        for n, numbers in [(65, (1,) * 65), (64, (1,) * 65), (0, (0,) * 65), (2048, (31,) * 64 + (64,)),
+                           (2048, (1,) * 2048), (320, (1,) * 320), (0, (0,) * 32_759)]:
+            self.refusals([(make_job(1, 10, [7] * n, blocks(*numbers)), refused(23))])
+
+    def test_copies_do_not_count(self):
+        """Blocks of sizes, not of copies."""
+        pairs = [(7, 2), (5, 3)]
+        self.refusals([(counted_job(10, pairs, blocks(5)), refused(23)),
+                       (counted_job(10, pairs, blocks(2, 3)), refused(23))])
+        self.assertEqual(answer(counted_job(10, pairs, blocks(1, 1)))[0], 0)
+
+    def test_what_comes_before(self):
+        step, wrong = family_step(1, 3), blocks(1, 1)
+        start = make_job(1, 10, [5], wrong)
+        for first, second in (([5], blocks(2)), ([5], blocks(0)), ([5], blocks()), ([5] * 65, blocks(*[1] * 65))):
+            self.refusals([
+                (make_job(1, 0, first, second), refused(1)), (make_job(1, LIMIT + 1, first, second), refused(1)),
+                (make_job(1, 10, first[1:] + [11], second), refused(17)),
+                (make_job(1, 10, [0] + first[1:], second), refused(17)),
+                (make_job(1, 4, first, second), refused(17)),
+                (counted_job(10, [(size, 0) for size in first], second), refused(22)),
+                (counted_job(10, [(size, 1) for size in first], second), refused(23))])
+        self.refusals([
+            (counted_job(10, [(5, 1), (5, 0)], blocks(1)), refused(22)),
+            (counted_job(10, [(5, 0), (11, 1)], blocks(1)), refused(17)),
+            (counted_job(0, [(5, 0)], blocks(2)), refused(1)),
+            (start + b"\4", refused(13)), (start + step[:-1], refused(13)), (start + wrong, refused(14)),
+            (start + counts(1), refused(14)), (start + step * 9, refused(14)),
+            (start + field(4, bytes(8)), refused(15)), (start + step + field(5, bytes(4)), refused(15))])
+        for short in range(5):
+            lent = [[0] * (places - (which == short)) for which, places in enumerate((2048, 2048, 2047, 64, 64))]
+            self.assertEqual(wf.job(start, *lent), refused(7))
+        self.assertEqual(wf.job(start + bytes(65_536), *buffers()), refused(12))
+
+    def test_what_comes_behind(self):
+        """Every sort of refused step, first and behind another."""
+        ok = family_step(1, 3)
+        bad = (family_step(8, 0), family_step(1, 6), family_step(2, LIMIT), table_step(0, 1)) + bad_tables(10)
+        for number, step in zip((2, 3, 4, 18, 8, 9, 10, 11), bad, strict=True):
+            length = 10 if number == 11 else 0
+            self.refusals([
+                (make_job(1, 10, [7, 5], blocks(1, 1), step), refused(number, 1, length)),
+                (counted_job(10, [(7, 2), (5, 9)], blocks(2), *[ok] * 7, step), refused(number, 8, length)),
+                (make_job(1, 10, [7, 5], blocks(1), step), refused(23)),
+                (make_job(1, 10, [7, 5], blocks(), ok, step), refused(23)),
+                (counted_job(10, [(7, 2), (5, 9)], blocks(3), step), refused(23))])
+
+
+class Blocks(Refusals):
+    """02, ticket 6: a floor for each block, and their total."""
+
+    def accepted(self, data, images, floors, numbers):
+        lent_images, working, lst, scales, lent_floors = buffers()
+        due = (0, len(images), *numbers, 0, 0, 0, sum(floors))
+        self.assertEqual(wf.job(data, lent_images, working, lst, scales, lent_floors), due)
+        self.assertEqual(lent_images, images + [MARK] * (PLACES - len(images)))
+        self.assertEqual(lent_floors, floors + [MARK] * (66 - len(floors)))
+        self.assertEqual((lst, scales), ([MARK] * PLACES, SHORTER))
+
+    def test_reckoned(self):
+        """Floor, sum and scale are those of the whole list."""
+        to_six = family_step(1, 4), family_step(3, 3)  # the images 6 of 7 and 3 of 5, at scale 6
+        for groups, steps, images, floors, numbers in [
+                ([[7, 5], [7, 5], [5]], to_six, [6, 3, 6, 3, 3], [2, 2, 1], (4, 21, 6)),
+                ([[7], [5, 7], [5, 5]], to_six, [6, 3, 6, 3, 3], [1, 2, 1], (4, 21, 6)),
+                ([[7, 5, 7, 5, 5]], to_six, [6, 3, 6, 3, 3], [4], (4, 21, 6)),
+                ([[6], [6], [6]], (), [6, 6, 6], [1, 1, 1], (2, 18, 10)),
+                ([[6, 6], [6]], (), [6, 6, 6], [2, 1], (2, 18, 10)),
+                ([[6], [6, 6]], (), [6, 6, 6], [1, 2], (2, 18, 10)),
+                ([[10, 10, 1], [9]], (), [10, 10, 1, 9], [3, 1], (3, 30, 10)),
+                ([[5, 5], [10], [1]], (), [5, 5, 10, 1], [1, 1, 1], (3, 21, 10)),
+                ([[6, 6], [6, 4]], (family_step(1, 5),), [10, 10, 10, 0], [2, 1], (3, 30, 10)),
+                ([[4, 4], [6], [3]], (family_step(1, 5),), [0, 0, 10, 0], [0, 1, 0], (1, 10, 10))]:
+            with self.subTest(groups=groups, steps=steps):
+                self.accepted(blocked_job(10, groups, *steps), images, floors, numbers)
+
+    def test_tables(self):
+        """The table gives 1 to sizes under 5; then 1 goes to 0."""
+        levels = table_step(0, 1, 1, 1, 1, 5)
+        self.accepted(blocked_job(5, [[1, 4], [5], [2]], levels), [1, 1, 5, 1], [1, 1, 1], (2, 8, 5))
+        self.accepted(blocked_job(5, [[1, 4, 5], [2]], levels, family_step(2, 1)), [0, 0, 5, 0], [1, 0], (1, 5, 5))
+        self.accepted(counted_blocked_job(5, [[(1, 7), (4, 9)], [(5, 2)]], levels), [1, 1, 5], [4, 2], (6, 26, 5))
+
+    def test_counts(self):
+        """Each block has the copies of its own sizes."""
+        to_six = family_step(1, 4), family_step(3, 3)
+        for groups, steps, images, floors, numbers in [
+                ([[(7, 2)], [(5, 3)]], to_six, [6, 3], [2, 2], (4, 21, 6)),
+                ([[(5, 301)], [(5, 301)]], (), [5, 5], [151, 151], (301, 3010, 10)),
+                ([[(1, 256), (3, 1)], [(3, 256)]], (), [1, 3, 3], [26, 77], (103, 1027, 10)),
+                ([[(1, 1), (2, 10)], [(3, 100)], [(4, 1000), (5, 10_000)]], (), [1, 2, 3, 4, 5], [3, 30, 5400],
+                 (5433, 54_321, 10)),
+                ([[(7, 1)], [(7, 65_535)]], to_six, [6, 6], [1, 65_535], (65_536, 393_216, 6))]:
+            with self.subTest(groups=groups, steps=steps):
+                self.accepted(counted_blocked_job(10, groups, *steps), images, floors, numbers)
+
+    def test_no_blocks(self):
+        """In order where there are no sizes, with and without counts and steps."""
+        for data in (make_job(1, 10, [], blocks()), counted_job(10, [], blocks()),
+                     make_job(1, 10, [], blocks(), family_step(1, 3), IDENTITY)):
+            self.accepted(data, [], [], (0, 0, 10))
+
+    def test_byte_order(self):
+        """257 sizes, 10 and then ones: the high byte of a block's number comes first."""
+        sizes = [10] + [1] * 256
+        self.accepted(make_job(1, 10, sizes, blocks(1, 256)), sizes, [1, 26], (27, 266, 10))
+        self.accepted(make_job(1, 10, sizes, blocks(256, 1)), sizes, [27, 1], (27, 266, 10))
+
+    def test_most(self):
+        """64 blocks, also of many lengths; one block of all sizes; the largest floors and their total. Neighbours up
+        to 31 and 32 fit a window of 64, those from 33 and 34 on take two."""
+        sizes = [7] * 64
+        self.accepted(make_job(1, 10, sizes, blocks(*[1] * 64)), sizes, [1] * 64, (45, 448, 10))
+        sizes = list(range(1, 65)) * 32
+        self.accepted(make_job(1, 64, sizes, blocks(2048)), sizes, [1040], (1040, 66_560, 64))
+        self.accepted(make_job(1, 64, sizes, blocks(*[64] * 31 + [2] * 31 + [1] * 2)), sizes,
+                      [33] * 31 + [1] * 16 + [2] * 15 + [1] * 2, (1040, 66_560, 64))
+        copies = 134_215_680  # 2,048 times 65,535
+        pairs, images = [(LIMIT, 65_535)] * 2048, [LIMIT] * 2048
+        for numbers, floors in (((2048,), [copies]), ((2047, 1), [copies - 65_535, 65_535]),
+                                ((32,) * 64, [copies // 64] * 64)):
+            self.accepted(counted_job(LIMIT, pairs, blocks(*numbers)), images, floors, (copies, copies * LIMIT, LIMIT))
+
+    def test_texts(self):
+        to_six = family_step(1, 4), family_step(3, 3)
+        for data, text in [
+                (blocked_job(10, [[7, 5], [7, 5], [5]], *to_six),
+                 b"floor 4\nsum 21\nscale 6\nimages 6 3 6 3 3\nblocks 2 2 1\n"),
+                (blocked_job(10, [[7, 5, 7, 5, 5]], *to_six),
+                 b"floor 4\nsum 21\nscale 6\nimages 6 3 6 3 3\nblocks 4\n"),
+                (counted_blocked_job(10, [[(7, 2)], [(5, 3)]], *to_six),
+                 b"floor 4\nsum 21\nscale 6\nimages 6 3\nblocks 2 2\n"),
+                (make_job(1, 10, [], blocks()), b"floor 0\nsum 0\nscale 10\nimages\nblocks\n"),
+                (make_job(1, 10, [7], blocks()), b"refused 23 0\n"),
+                (make_job(1, 10, [7], blocks(2), family_step(8, 0)), b"refused 23 0\n"),
+                (make_job(1, 10, [7], blocks(1), family_step(8, 0)), b"refused 2 1\n"),
+                (make_job(2, 10, [7], blocks(1)), b"refused 14 0\n"),
+                (rows_job([(10, 7)]) + blocks(1), b"refused 14 0 0\n"),
+                (make_job(1, 3, [1], blocks(1), table_step(0, 0, 2, 1)), b"refused 11 1\nlist 1 2\n")]:
+            with self.subTest(data=data.hex()):
+                self.assertEqual(wf.program(data), text)
+
+
+class BlockLaws(unittest.TestCase):
+    """02, ticket 6: what is said of the block floors and their total, by brute force."""
+
+    def jobs(self, seed, times, most_sizes=6, most_copies=7):
+        """Capacity, groups of pairs and steps of small accepted jobs."""
+        rng = random.Random(seed)
+        for _ in range(times):
+            capacity = rng.randint(1, 12)
+            pairs = random_pairs(rng, rng.randint(1, capacity), rng.randint(0, most_sizes), 2)
+            while len(written_out(pairs)) > most_copies:
+                pairs.pop()
+            yield capacity, random_groups(rng, pairs, most_sizes), random_chain(rng, capacity)
+
+    def floors_of(self, capacity, groups, steps):
+        """Floor, total and block floors."""
+        *others, floors = buffers()
+        number, _, floor, _, _, _, _, _, total = wf.job(counted_blocked_job(capacity, groups, *steps), *others, floors)
+        self.assertEqual(number, 0)
+        return floor, total, floors[:len(groups)]
+
+    def check_assignment(self, assignment, owners, floor, total, floors):
+        """Whether it keeps blocks separate; owners has each copy's block."""
+        windows = set(assignment)
+        self.assertLessEqual(floor, len(windows))
+        owned = set(zip(assignment, owners))
+        if len(owned) > len(windows):
+            return False
+        self.assertLessEqual(total, len(windows))
+        for block, block_floor in enumerate(floors):
+            self.assertLessEqual(block_floor, sum(owner == block for _, owner in owned))
+        return True
+
+    def test_separate_assignments(self):
+        """Of all that fit: the floor is at most the windows of each, the total those of each that keeps blocks
+        separate, and a block's floor its own windows there. Often the total is more than the floor, and reached."""
+        met = {"over the floor": 0, "reached": 0, "over what is shared": 0}
+        for capacity, groups, steps in self.jobs(10, 300):
+            floor, total, floors = self.floors_of(capacity, groups, steps)
+            copies = written_out(together(groups))
+            owners = [block for block, group in enumerate(groups) for _ in written_out(group)]
+            with self.subTest(capacity=capacity, groups=groups, steps=steps):
+                self.assertLessEqual(floor, total)
+                fewest = {True: len(copies), False: len(copies)}  # by whether blocks are kept separate
+                for assignment in assignments(copies, capacity):
+                    separate = self.check_assignment(assignment, owners, floor, total, floors)
+                    fewest[separate] = min(fewest[separate], len(set(assignment)))
+                met["over the floor"] += floor < total
+                met["reached"] += total == fewest[True]
+                met["over what is shared"] += total > fewest[False]
+        self.assertGreater(min(met.values()), 25, met)
+
+    def test_each_block_alone(self):
+        """A block's floor is the floor of a job with its sizes alone and the same steps; the rest of the answer and
+        the other buffers are as without blocks, and one block of all sizes has the whole floor."""
+        for capacity, groups, steps in self.jobs(11, 200, 9, 30):
+            floor, total, floors = self.floors_of(capacity, groups, steps)
+            with self.subTest(capacity=capacity, groups=groups, steps=steps):
+                self.assertEqual(floors, [answer(counted_job(capacity, group, *steps))[2] for group in groups])
+                self.assertEqual(total, sum(floors))
+                with_blocks, without = buffers(), buffers()
+                found = wf.job(counted_blocked_job(capacity, groups, *steps), *with_blocks)
+                due = wf.job(counted_job(capacity, together(groups), *steps), *without)
+                self.assertEqual((found[:8], with_blocks[:4]), (due[:8], without[:4]))
+                self.assertEqual((due[8], without[4]), (floor, SHORTER))
+                whole = [together(groups)] if groups else []
+                self.assertEqual(self.floors_of(capacity, whole, steps), (floor, floor, [floor] * len(whole)))
 
 
 class RowTexts(unittest.TestCase):

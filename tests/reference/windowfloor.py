@@ -1,14 +1,15 @@
 """Reference for the operations of the scope document ("01") with the change
-requests for many rows, for tables of another capacity and for counts of
-identical sizes ("02", tickets 1, 2 and 4), written for clarity. Comments name
-the section of 01, or the ticket of 02, that a function follows."""
+requests for many rows, for tables of another capacity, for counts of identical
+sizes, for half of an odd window and for blocks ("02", tickets 1, 2, 4, 5 and 6),
+written for clarity. Comments name the section of 01, or the ticket of 02, that a
+function follows."""
 
 import sys
 from functools import lru_cache
 
 LIMIT = 1_000_000_000  # capacities, parameters, scales and table entries
 
-# Refusal numbers (01, Operations and what they refuse; 02, tickets 1 and 4).
+# Refusal numbers (01, Operations and what they refuse; 02, tickets 1, 4 and 6).
 ACCEPTED = 0
 BAD_CAPACITY = 1
 BAD_FAMILY = 2
@@ -32,12 +33,13 @@ BAD_RANGE = 19
 NO_LEGAL_P = 20
 BAD_ROWS = 21
 COUNT_0 = 22
+BAD_BLOCKS = 23
 
 FLOOR, CUT, ROWS = 1, 2, 3  # kinds
-KIND, CAPACITY, SIZES, FAMILY_STEP, TABLE_STEP, ROW, COUNTS = 1, 2, 3, 4, 5, 6, 7  # tags
+KIND, CAPACITY, SIZES, FAMILY_STEP, TABLE_STEP, ROW, COUNTS, BLOCKS = 1, 2, 3, 4, 5, 6, 7, 8  # tags
 STEPS = FAMILY_STEP, TABLE_STEP
-MOST_ENTRIES, MOST_SIZES, MOST_STEPS, MOST_ROWS, MOST_JOB_BYTES = 2048, 2048, 8, 64, 65535
-JOB_IMAGES, JOB_WORKING, JOB_LIST, JOB_SCALES = 2048, 2048, 2047, 64  # least places
+MOST_ENTRIES, MOST_SIZES, MOST_STEPS, MOST_ROWS, MOST_BLOCKS, MOST_JOB_BYTES = 2048, 2048, 8, 64, 64, 65535
+JOB_IMAGES, JOB_WORKING, JOB_LIST, JOB_SCALES, JOB_BLOCKS = 2048, 2048, 2047, 64, 64  # least places
 
 
 # 01, Words
@@ -318,24 +320,31 @@ def counts_may_follow(fields):
     return len(fields) > 0 and kind_of(fields) == FLOOR and fields[-1][0] == SIZES
 
 
+def blocks_may_follow(fields):
+    """02, ticket 6: tag 8 ends the list part, right after tag 3 or tag 7, and only where the kind byte is 1."""
+    return len(fields) > 0 and kind_of(fields) == FLOOR and fields[-1][0] in (SIZES, COUNTS)
+
+
 def may_end(fields):
     """Jobs: these fields can be a whole job; refusal 14 if not."""
     return has_rows(fields) or len(fields) >= 3
 
 
 def tag_in_place(fields, tag):
-    """Jobs; 02, tickets 1 and 4: tag may follow these fields; refusal 14 if not."""
+    """Jobs; 02, tickets 1, 4 and 6: tag may follow these fields; refusal 14 if not."""
     if tag in STEPS:
         return may_end(fields) and len(steps_of(fields)) < MOST_STEPS
     if tag == COUNTS:
         return counts_may_follow(fields)
+    if tag == BLOCKS:
+        return blocks_may_follow(fields)
     if has_rows(fields):
         return tag == ROW and fields[-1][0] in (KIND, ROW)
     return len(fields) < 3 and tag == (KIND, CAPACITY, SIZES)[len(fields)]
 
 
 def length_right(tag, length, fields=()):
-    """Jobs; 02, tickets 1 and 4: the lengths of the tags; refusal 15 if wrong. That of tag 7 depends on the fields
+    """Jobs; 02, tickets 1, 4 and 6: the lengths of the tags; refusal 15 if wrong. That of tag 7 depends on the fields
     before it."""
     if tag == KIND:
         return length == 1
@@ -349,6 +358,8 @@ def length_right(tag, length, fields=()):
         return length % 4 == 0 and length >= 4
     if tag == COUNTS:
         return length == 2 * len(sizes_of(fields))
+    if tag == BLOCKS:
+        return length % 2 == 0
     return 8 <= length <= 4 * MOST_ENTRIES and length % 4 == 0
 
 
@@ -388,6 +399,13 @@ def counts_of(fields):
     if COUNTS in dict(fields):
         return numbers_of(value_of(fields, COUNTS), 2)
     return [1] * len(sizes_of(fields))
+
+
+def blocks_of(fields):
+    """02, ticket 6: the number of sizes of each block; None without tag 8."""
+    if BLOCKS in dict(fields):
+        return numbers_of(value_of(fields, BLOCKS), 2)
+    return None
 
 
 def steps_of(fields):
@@ -433,14 +451,21 @@ def take_step(field, capacity, images, working, lst):
 
 # 01, Operations: Job
 
-def list_refusal(kind, capacity, sizes, counts=()):
-    """Operations, Job; 02, ticket 4: refusals 1, 17 and 22, or 0."""
+def blocks_refused(blocks, n):
+    """02, ticket 6: refusal 23, of the blocks of n sizes."""
+    return 0 in blocks or len(blocks) > MOST_BLOCKS or sum(blocks) != n
+
+
+def list_refusal(kind, capacity, sizes, counts=(), blocks=None):
+    """Operations, Job; 02, tickets 4 and 6: refusals 1, 17, 22 and 23, or 0."""
     if capacity_refused(capacity):
         return BAD_CAPACITY
     if any(size > capacity or (size == 0 and kind == FLOOR) for size in sizes):
         return BAD_SIZE
     if 0 in counts:
         return COUNT_0
+    if blocks is not None and blocks_refused(blocks, len(sizes)):
+        return BAD_BLOCKS
     return ACCEPTED
 
 
@@ -450,20 +475,20 @@ def rows_refused(rows):
     return not 1 <= len(rows) <= MOST_ROWS or coefficients > MOST_SIZES
 
 
-def early_job_refusal(data, images, working, lst, scales):
-    """Operations, Job; 02, ticket 1: refusals 12 and 7, or 0."""
+def early_job_refusal(data, images, working, lst, scales, blocks):
+    """Operations, Job; 02, tickets 1 and 6: refusals 12 and 7, or 0."""
     if len(data) > MOST_JOB_BYTES:
         return JOB_TOO_LONG
     if len(images) < JOB_IMAGES or len(working) < JOB_WORKING:
         return SHORT_BUFFER
-    if len(lst) < JOB_LIST or len(scales) < JOB_SCALES:
+    if len(lst) < JOB_LIST or len(scales) < JOB_SCALES or len(blocks) < JOB_BLOCKS:
         return SHORT_BUFFER
     return ACCEPTED
 
 
 def refused(number, step=0, length=0, row=0):
     """Operations: a refused job's answer."""
-    return number, 0, 0, 0, 0, step, length, row
+    return number, 0, 0, 0, 0, step, length, row, 0
 
 
 def floor_of(total, scale):
@@ -476,18 +501,21 @@ def total_of(images, counts):
     return sum(count * image for count, image in zip(counts, images, strict=True))
 
 
-def accepted(kind, present, counts, scale):
-    """Operations, Job: an accepted job's answer, of kind 1 or 2."""
-    if kind == CUT:
-        return ACCEPTED, len(present), 0, 0, scale, 0, 0, 0
-    total = total_of(present, counts)
-    return ACCEPTED, len(present), floor_of(total, scale), total, scale, 0, 0, 0
+def block_floors(present, counts, blocks, scale):
+    """02, ticket 6: the floor of each block's part of the list, in list order."""
+    floors, at = [], 0
+    for n in blocks:
+        total = total_of(present[at:at + n], counts[at:at + n])
+        floors.append(floor_of(total, scale))
+        at += n
+    return floors
 
 
-def judge(kind, capacity, sizes, counts, steps, working, lst):
-    """Operations, Job; 02, ticket 4: a list or a row in full: refusals 1, 17
-    and 22, then the steps in order -> (number, step, length, images, scale)."""
-    number = list_refusal(kind, capacity, sizes, counts)
+def judge(kind, capacity, sizes, counts, blocks, steps, working, lst):
+    """Operations, Job; 02, tickets 4 and 6: a list or a row in full: refusals
+    1, 17, 22 and 23, then the steps in order -> (number, step, length, images,
+    scale)."""
+    number = list_refusal(kind, capacity, sizes, counts, blocks)
     if number != ACCEPTED:
         return number, 0, 0, [], 0
     present, scale = sizes, capacity
@@ -498,37 +526,50 @@ def judge(kind, capacity, sizes, counts, steps, working, lst):
     return ACCEPTED, 0, 0, present, scale
 
 
-def list_job(kind, fields, images, working, lst):
-    """Operations, Job: kinds 1 and 2, with their fields in order."""
+def floor_answer(present, counts, blocks, scale, lent_blocks):
+    """Operations, Job; 02, ticket 6: an accepted floor job's answer, and its
+    block floors written. Without blocks the total is the whole floor."""
+    floors = [] if blocks is None else block_floors(present, counts, blocks, scale)
+    lent_blocks[:len(floors)] = floors
+    whole = total_of(present, counts)
+    floor = floor_of(whole, scale)
+    total = floor if blocks is None else sum(floors)
+    return ACCEPTED, len(present), floor, whole, scale, 0, 0, 0, total
+
+
+def list_job(kind, fields, images, working, lst, lent_blocks):
+    """Operations, Job; 02, ticket 6: kinds 1 and 2, with their fields in order."""
     capacity, sizes = number_of(value_of(fields, CAPACITY)), sizes_of(fields)
-    counts, steps = counts_of(fields), steps_of(fields)
-    number, step, length, present, scale = judge(kind, capacity, sizes, counts, steps, working, lst)
+    counts, blocks, steps = counts_of(fields), blocks_of(fields), steps_of(fields)
+    number, step, length, present, scale = judge(kind, capacity, sizes, counts, blocks, steps, working, lst)
     if number != ACCEPTED:
         return refused(number, step, length)
     images[:len(present)] = present
-    return accepted(kind, present, counts, scale)
+    if kind == CUT:
+        return ACCEPTED, len(present), 0, 0, scale, 0, 0, 0, 0
+    return floor_answer(present, counts, blocks, scale, lent_blocks)
 
 
 def rows_job(fields, images, working, lst, scales):
-    """02, ticket 1: kind 3. Every row is judged in full before the next; it has no counts."""
+    """02, ticket 1: kind 3. Every row is judged in full before the next; it has no counts and no blocks."""
     rows, steps = rows_of(fields), steps_of(fields)
     if rows_refused(rows):
         return refused(BAD_ROWS)
     all_images, all_scales = [], []
     for place, (right, *coefficients) in enumerate(rows, start=1):
-        number, step, length, present, scale = judge(ROWS, right, coefficients, (), steps, working, lst)
+        number, step, length, present, scale = judge(ROWS, right, coefficients, (), None, steps, working, lst)
         if number != ACCEPTED:
             return refused(number, step, length, place)
         all_images += present
         all_scales.append(scale)
     images[:len(all_images)] = all_images
     scales[:len(all_scales)] = all_scales
-    return ACCEPTED, len(all_images), 0, 0, 0, 0, 0, 0
+    return ACCEPTED, len(all_images), 0, 0, 0, 0, 0, 0, 0
 
 
-def job(data, images, working, lst, scales):
-    """Operations, Job -> (number, n, floor, sum, scale, step, length, row)."""
-    number = early_job_refusal(data, images, working, lst, scales)
+def job(data, images, working, lst, scales, blocks):
+    """Operations, Job -> (number, n, floor, sum, scale, step, length, row, total)."""
+    number = early_job_refusal(data, images, working, lst, scales, blocks)
     if number != ACCEPTED:
         return refused(number)
     number, fields = read_fields(data)
@@ -539,7 +580,7 @@ def job(data, images, working, lst, scales):
         return rows_job(fields, images, working, lst, scales)
     if kind not in (FLOOR, CUT):
         return refused(BAD_KIND)
-    return list_job(kind, fields, images, working, lst)
+    return list_job(kind, fields, images, working, lst, blocks)
 
 
 # 01, Operations: Sweep
@@ -612,11 +653,17 @@ def rows_text(data, images, scales):
     return text
 
 
+def blocks_text(data, floors):
+    """02, ticket 6: the block floors, as many as tag 8 has numbers. Without the tag there is no such line."""
+    blocks = blocks_of(read_fields(data)[1])
+    return "" if blocks is None else line("blocks", floors[:len(blocks)])
+
+
 def text_of(data):
     """The hand-over program: its text for a job."""
     images, working = [0] * JOB_IMAGES, [0] * JOB_WORKING
-    lst, scales = [0] * JOB_LIST, [0] * JOB_SCALES
-    number, n, floor, total, scale, step, length, row = job(data, images, working, lst, scales)
+    lst, scales, blocks = [0] * JOB_LIST, [0] * JOB_SCALES, [0] * JOB_BLOCKS
+    number, n, floor, whole, scale, step, length, row, _ = job(data, images, working, lst, scales, blocks)
     if number != ACCEPTED:
         return refusal_text(data, number, row, step, lst[:length])
     kind = data[3]  # an accepted job has its kind there
@@ -624,7 +671,8 @@ def text_of(data):
         return rows_text(data, images, scales)
     if kind == CUT:
         return cut_text(scale, images[:n])
-    return line("floor", [floor]) + line("sum", [total]) + cut_text(scale, images[:n])
+    first = line("floor", [floor]) + line("sum", [whole])
+    return first + cut_text(scale, images[:n]) + blocks_text(data, blocks)
 
 
 def program(data):

@@ -176,15 +176,17 @@ static void table(void)
 static void job(void)
 {
     static uint8_t data[ROOM_BYTES];
-    static struct lent images, working, list, scales;
+    static struct lent images, working, list, scales, blocks;
     size_t count = bytes("job", data);
     uint32_t *lent_images = lend(&images, "images", 4, 2048);
     uint64_t *lent_working = lend(&working, "working", 8, 2048);
     uint32_t *lent_list = lend(&list, "list", 4, 2047);
     uint32_t *lent_scales = lend(&scales, "scales", 4, 64);
+    uint32_t *lent_blocks = lend(&blocks, "blocks", 4, 64);
     struct windowfloor_job_answer answer =
         windowfloor_job(data, count, lent_images, images.places, lent_working, working.places,
-                        lent_list, list.places, lent_scales, scales.places);
+                        lent_list, list.places, lent_scales, scales.places, lent_blocks,
+                        blocks.places);
     PRINT(answer, number);
     PRINT(answer, n);
     PRINT(answer, floor);
@@ -193,9 +195,11 @@ static void job(void)
     PRINT(answer, step);
     PRINT(answer, length);
     PRINT(answer, row);
+    PRINT(answer, total);
     print_buffer(&images);
     print_buffer(&list);
     print_buffer(&scales);
+    print_buffer(&blocks);
 }
 
 static size_t given_counts(uint16_t *out)

@@ -34,16 +34,17 @@ def table(given):
 
 
 def lent(given):
-    """The buffers of a job: images, working, list and scales."""
+    """The buffers of a job: images, working, list, scales and blocks."""
     return (lend(given, "images", 2048), lend(given, "working", 2048, WIDE), lend(given, "list", 2047),
-            lend(given, "scales", 64))
+            lend(given, "scales", 64), lend(given, "blocks", 64))
 
 
 def job(given):
-    images, working, listed, scales = lent(given)
-    numbers = wf.job(given["job"], images, working, listed, scales)
-    answer = named("number n floor sum scale step length row", numbers)
-    return answer | dict(images=changed(images), list=changed(listed), scales=changed(scales))
+    images, working, listed, scales, blocks = lent(given)
+    numbers = wf.job(given["job"], images, working, listed, scales, blocks)
+    answer = named("number n floor sum scale step length row total", numbers)
+    buffers = dict(images=images, list=listed, scales=scales, blocks=blocks)
+    return answer | {name: changed(places) for name, places in buffers.items()}
 
 
 def sweep(given):

@@ -48,10 +48,10 @@ def is_read(given):
 
 
 def lists_of(kind, fields):
-    """Capacity, sizes and counts of the list, or of each row."""
+    """Capacity, sizes, counts and blocks of the list, or of each row."""
     if kind == wf.ROWS:
-        return [(right, coefficients, ()) for right, *coefficients in wf.rows_of(fields)]
-    return [(wf.number_of(fields[1][1]), wf.sizes_of(fields), wf.counts_of(fields))]
+        return [(right, coefficients, (), None) for right, *coefficients in wf.rows_of(fields)]
+    return [(wf.number_of(fields[1][1]), wf.sizes_of(fields), wf.counts_of(fields), wf.blocks_of(fields))]
 
 
 def up_to_the_steps(given):
@@ -64,8 +64,8 @@ def up_to_the_steps(given):
     kind = wf.kind_of(fields)
     if kind not in (wf.FLOOR, wf.CUT, wf.ROWS) or (kind == wf.ROWS and wf.rows_refused(wf.rows_of(fields))):
         return
-    for capacity, sizes, counts in lists_of(kind, fields):
-        if wf.list_refusal(kind, capacity, sizes, counts) != wf.ACCEPTED:
+    for capacity, sizes, counts, blocks in lists_of(kind, fields):
+        if wf.list_refusal(kind, capacity, sizes, counts, blocks) != wf.ACCEPTED:
             return
         yield capacity, wf.steps_of(fields)
 
@@ -97,15 +97,26 @@ def lies_within(field):
     return len(field) == 3 + wf.number_of(field[1:3])
 
 
-def counts_behind_the_sizes(given):
-    """Tags 1, 2 and 3 of a job of kind 1 pass 13 to 15, and the field behind them is a tag 7 within the job."""
+def follows(given, tag, before):
+    """The first fields of a job of kind 1, so many, pass 13 to 15, and the next one has this tag and lies within the
+    job."""
     if not is_read(given):
         return False
     parts = fields_of(given["job"])
-    number, head = wf.read_fields(b"".join(parts[:3]))
-    if number != wf.ACCEPTED or wf.kind_of(head) != wf.FLOOR:
+    number, fields = wf.read_fields(b"".join(parts[:before]))
+    if number != wf.ACCEPTED or wf.kind_of(fields) != wf.FLOOR:
         return False
-    return any(part[0] == wf.COUNTS and lies_within(part) for part in parts[3:4])
+    return any(part[0] == tag and lies_within(part) for part in parts[before:before + 1])
+
+
+def counts_behind_the_sizes(given):
+    """Tag 7 right behind tags 1, 2 and 3."""
+    return follows(given, wf.COUNTS, 3)
+
+
+def blocks_behind_the_list(given):
+    """Tag 8 right behind tags 1, 2 and 3, or right behind the tag 7 that follows these."""
+    return follows(given, wf.BLOCKS, 3) or (follows(given, wf.COUNTS, 3) and follows(given, wf.BLOCKS, 4))
 
 
 def is_half(capacity, family, p, q):
@@ -157,4 +168,6 @@ EXCEPTIONS = [
          "refused with 3, and is now accepted", now=by_reference.answer),
     Rule(5, ("sweep",), sweep_over_a_half, "a range of family 1 has a p with 2p = C + 1: its floor may rise, its 20 "
          "may go", now=by_reference.answer),
+    Rule(6, ("job", "text"), blocks_behind_the_list, "a tag 8 that ends the list part, right after tag 3 or tag 7, "
+         "where the kind byte is 1 was out of place, 14, and is now read", now=by_reference.answer),
 ]

@@ -28,6 +28,13 @@ OTHER_TABLE = ("job=01000101.0200040000000a.030000.05001000000000000000000000000
                "number=11 n=0 floor=0 sum=0 scale=0 step=1 length=2 images=same list=0:1,2")
 COUNTED = ("job=01000101.0200040000000a.03000400000006.070002012c -> "
            "number=14 n=0 floor=0 sum=0 scale=0 step=0 length=0 row=0 images=same list=same scales=same")
+BLOCKS = ("job=01000101.0200040000000a.03000c000000070000000600000003.08000400020001 -> "
+          "number=0 n=3 floor=2 sum=16 scale=10 step=0 length=0 row=0 total=3 images=0:7,6,3 list=same scales=same "
+          "blocks=0:2,1")
+OUT_OF_PLACE = dict(  # answers that request 6 changes
+    job=BLOCKS.split(" -> ")[0] + " -> "
+        "number=14 n=0 floor=0 sum=0 scale=0 step=0 length=0 row=0 images=same list=same scales=same",
+    text=BLOCKS.split(" -> ")[0] + " -> status=0 errors=0 text='refused 14 0\\n'")
 HALVES = dict(  # answers that request 5 changes
     image="capacity=5 family=1 p=3 q=0 x=3 -> number=3 image=0 scale=0",
     job="job=01000101.02000400000005.03000400000003.040009010000000300000000 -> "
@@ -78,6 +85,7 @@ class Comparison(unittest.TestCase):
     def test_right_answers(self):
         self.assert_passes("base: 5 cases compared", CASES)
         self.assert_passes("base: 1 cases compared", dict(job=ROWS))
+        self.assert_passes("base: 1 cases compared", dict(job=BLOCKS))
 
     def test_changed_answers(self):
         for operation, old, new, field in (
@@ -98,12 +106,31 @@ class Comparison(unittest.TestCase):
                 ("scales=0:10,9", "scales=0:10", "scales"), ("scales=0:10,9", "scales=0:10,9;63:1", "scales")):
             self.assert_finds("job", ROWS, old, new, field)
 
-    def test_places_of_the_scales(self):
-        given, answer = ROWS.split(" -> ")
+    def test_changed_answers_of_blocks(self):
+        for old, new, field in (
+                ("total=3", "total=2", "total"), ("floor=2", "floor=3", "floor"),
+                ("blocks=0:2,1", "blocks=0:1,2", "blocks"), ("blocks=0:2,1", "blocks=0:2", "blocks"),
+                ("blocks=0:2,1", "blocks=0:2,1;63:1", "blocks"), ("blocks=0:2,1", "blocks=same", "blocks")):
+            self.assert_finds("job", BLOCKS, old, new, field)
+
+    def test_fields_that_requests_added(self):
+        """Where the stored answer has none, they are as in a job without rows and without blocks."""
+        self.assert_finds("job", JOB, "floor=1", "floor=2", "floor, total")
+        self.assert_finds("job", BLOCKS, "total=3 ", "", "total")
+        self.assert_finds("job", BLOCKS, " blocks=0:2,1", "", "blocks")
+        self.assert_finds("job", ROWS, " scales=0:10,9", "", "scales")
+        row_2 = ("job=01000103.0600040000000a.06000400000000 -> "
+                 "number=1 n=0 floor=0 sum=0 scale=0 step=0 length=0 row=2 images=same list=same scales=same")
+        self.assert_passes("1 cases compared", dict(job=row_2))
+        self.assert_finds("job", row_2, " row=2", "", "row")
+
+    def test_places_of_scales_and_blocks(self):
         short = "number=7 n=0 floor=0 sum=0 scale=0 step=0 length=0 row=0 images=same list=same scales=same"
-        for places, due in ((63, short), (64, answer), (70, answer)):
-            self.assert_passes("1 cases compared", dict(job=f"{given} scales_places={places} -> {due}"))
-        self.assert_fails("number", dict(job=f"{given} scales_places=63 -> {answer}"))
+        for line, name in itertools.product((JOB, ROWS, BLOCKS), ("scales", "blocks")):
+            given, answer = line.split(" -> ")
+            for places, due in ((63, short), (64, answer), (70, answer)):
+                self.assert_passes("1 cases compared", dict(job=f"{given} {name}_places={places} -> {due}"))
+            self.assert_fails("number", dict(job=f"{given} {name}_places=63 -> {answer}"))
 
     def assert_sweeps(self, answer, *lists):
         """The library, and the independent implementation for rules, give this answer for each list."""
@@ -137,6 +164,8 @@ class Comparison(unittest.TestCase):
         rule = Rule(2, ("image",), lambda given: given["p"] == 3, "thresholds of 3")
         self.assert_passes("request 2: 1 cases: thresholds of 3", dict(CASES, image=wrong), [rule])
         self.assert_fails("line 1: image", dict(image=wrong))
+        jobs = Rule(2, ("job",), always, "all jobs")
+        self.assert_passes("base: 0 cases compared", dict(job=JOB.replace("floor=1", "floor=2")), [jobs])
 
     def test_a_rule_about_no_case(self):
         of_four = Rule(2, ("image",), lambda given: given["p"] == 4, "thresholds of 4")
@@ -161,33 +190,30 @@ class Comparison(unittest.TestCase):
         self.assert_passes("request 2: 1 cases", changed, [rule], release="request-1")
         self.assert_fails("line 1: image", changed, [rule], release="request-2")
 
+    def assert_changed(self, request, operation, line, fields):
+        """A request changes these fields of a stored answer of the releases before it."""
+        rules = [rule for rule in EXCEPTIONS if rule.request == request and operation in rule.operations]
+        for release in ("base", f"request-{request - 1}"):
+            self.assert_passes(f"request {request}: 1 cases", {operation: line}, rules, release=release)
+        self.assert_fails(f"line 1: {fields}\n", {operation: line}, rules, release=f"request-{request}")
+        self.assert_fails(f"line 1: {fields}\n", {operation: line})
+
     def test_a_table_of_another_capacity(self):
-        """What request 2 makes of an answer that it changes."""
-        rules = [rule for rule in EXCEPTIONS if rule.request == 2]
-        self.assert_passes("request 2: 1 cases", dict(job=OTHER_TABLE), rules)
-        self.assert_passes("request 2: 1 cases", dict(job=OTHER_TABLE), rules, release="request-1")
-        self.assert_fails("line 1: number, length, list", dict(job=OTHER_TABLE), rules, release="request-2")
-        self.assert_fails("line 1: number, length, list", dict(job=OTHER_TABLE))
+        self.assert_changed(2, "job", OTHER_TABLE, "number, length, list")
 
     def test_counts_that_were_out_of_place(self):
-        """What request 4 makes of an answer that it changes."""
-        rules = [rule for rule in EXCEPTIONS if rule.request == 4]
-        self.assert_passes("request 4: 1 cases", dict(job=COUNTED), rules)
-        self.assert_passes("request 4: 1 cases", dict(job=COUNTED), rules, release="request-3")
-        changed = "number, n, floor, sum, scale, images"
-        self.assert_fails(f"line 1: {changed}", dict(job=COUNTED), rules, release="request-4")
-        self.assert_fails(f"line 1: {changed}", dict(job=COUNTED))
+        self.assert_changed(4, "job", COUNTED, "number, n, floor, sum, scale, images, total")
 
     def test_half_of_an_odd_window(self):
-        """What request 5 makes of answers that it changes."""
-        changed = dict(image="number, image, scale", job="number, n, floor, sum, scale, step, images", text="text",
-                       sweep="number, floor, p")
+        changed = dict(image="number, image, scale", job="number, n, floor, sum, scale, step, images, total",
+                       text="text", sweep="number, floor, p")
         for operation, line in HALVES.items():
-            rules = [rule for rule in EXCEPTIONS if rule.request == 5 and operation in rule.operations]
-            for release in ("base", "request-4"):
-                self.assert_passes("request 5: 1 cases", {operation: line}, rules, release=release)
-            self.assert_fails(f"line 1: {changed[operation]}", {operation: line}, rules, release="request-5")
-            self.assert_fails(f"line 1: {changed[operation]}", {operation: line})
+            self.assert_changed(5, operation, line, changed[operation])
+
+    def test_blocks_that_were_out_of_place(self):
+        changed = dict(job="number, n, floor, sum, scale, images, total, blocks", text="text")
+        for operation, line in OUT_OF_PLACE.items():
+            self.assert_changed(6, operation, line, changed[operation])
 
 
 class Exceptions(unittest.TestCase):
@@ -213,7 +239,7 @@ class Exceptions(unittest.TestCase):
             self.assertEqual(self.excepted(request, operation, data), applies, data.hex())
 
     def assert_not_with_short_buffers(self, request, data):
-        for name, places in (("images", 2047), ("working", 0), ("list", 2046), ("scales", 63)):
+        for name, places in (("images", 2047), ("working", 0), ("list", 2046), ("scales", 63), ("blocks", 63)):
             self.assertFalse(self.excepted(request, "job", data, **{name + "_places": places}))
 
     def test_request_2_applies(self):
@@ -251,6 +277,17 @@ class Exceptions(unittest.TestCase):
             self.assert_excepted(
                 2, False, job(1, 10, (3, 4), halves(7, 300, 0), bad), job(1, 10, (3, 4), halves(7, 300), bad),
                 job(2, 10, (3, 4), halves(7, 300, 1), bad), job(1, 2, (2,), halves(7, 300), bad))
+
+    def test_request_2_behind_blocks(self):
+        """Blocks are asked before the steps too."""
+        for bad in BAD_TABLES:
+            self.assert_excepted(
+                2, True, job(1, 10, (3, 4), halves(8, 1, 1), bad), job(1, 10, (), field(8, b""), bad),
+                job(1, 10, (3, 4), halves(7, 300, 1), halves(8, 2), bad))
+            self.assert_excepted(
+                2, False, job(1, 10, (3, 4), halves(8, 1), bad), job(1, 10, (3, 4), halves(8, 2, 0), bad),
+                job(1, 10, (3, 4), field(8, bytes(3)), bad), job(2, 10, (3, 4), halves(8, 1, 1), bad),
+                job(1, 10, (3, 4), field(8, b""), bad), job(1, 10, [3] * 65, halves(8, *[1] * 65), bad))
 
     def test_request_4_applies(self):
         """Whatever the counts are, and whatever is wrong with the list or stands behind them."""
@@ -303,6 +340,7 @@ class Exceptions(unittest.TestCase):
             5, True, job(1, 5, (3,), half), job(2, 5, (0,), half), job(1, 5, (), half), job(1, 1, (1,), family(1, 1)),
             job(1, 6, (3,), five, half), job(1, 6, (3,), family(1, 3), five, half), job(1, 5, (3,), half, family(8, 1)),
             job(1, 5, (3,), *[family(1, 0)] * 7, half), job(1, 5, (3,), halves(7, 300), half),
+            job(1, 5, (3,), halves(8, 1), half),
             model([(5, 3)], half), model([(6, 3), (7,), (5, 3)], half), model([(5, 3), (0,)], half),
             model([(6, 0), (6, 4)], five, half), model([(12, 3), (11, 3)], family(5, 1), family(1, 6)))
 
@@ -315,10 +353,53 @@ class Exceptions(unittest.TestCase):
             job(1, 5, (3,), family(1, 4)), job(1, 5, (3,), family(1, 3, 1)), job(1, 5, (3,), family(3, 3)),
             job(1, 6, (3,), five, family(1, 4)), job(1, 5, (3,), family(2, 2), half),
             job(1, 5, (3,), family(8, 1), half), job(1, 5, (3,), five, half), job(1, 5, (0,), half),
-            job(1, 5, (6,), half), job(1, 5, (3,), halves(7, 0), half), job(4, 5, (3,), half), data[:-1], data + b"\4",
+            job(1, 5, (6,), half), job(1, 5, (3,), halves(7, 0), half), job(1, 5, (3,), halves(8, 2), half),
+            job(4, 5, (3,), half), data[:-1], data + b"\4",
             data + bytes(65_536), KIND_3 + half, model([(6, 3)], half), model([(4, 3), (5, 3)], half),
             model([(6, 7), (5, 3)], half), model([(6,), (0,), (5,)], half), model([(6, 3)] * 64 + [(5, 3)], half))
         self.assert_not_with_short_buffers(5, data)
+
+    def test_request_6_applies(self):
+        """Whatever the blocks are, and whatever is wrong with the list or stands behind them."""
+        for blocks in (halves(8, 1, 1), halves(8, 2), halves(8, 2, 0), halves(8, 9), field(8, b""), field(8, bytes(3)),
+                       halves(8, *[1] * 65)):
+            for before in (b"", halves(7, 300, 1), halves(7, 0, 0)):
+                data = job(1, 10, (3, 4), before, blocks)
+                self.assert_excepted(
+                    6, True, data, data + family(1, 3), data + family(8, 1), data + blocks, data + halves(7, 1, 1),
+                    data + b"\x08", data + bytes(9), (data + bytes(65_535))[:65_535],
+                    job(1, 0, (0, 11), before, blocks))
+            self.assert_excepted(6, True, job(1, 0, (), blocks), job(1, 10, (), field(7, b""), blocks))
+        self.assertTrue(self.excepted(6, "job", job(1, 10, (3, 4), halves(8, 2)), blocks_places=70))
+
+    def test_request_6_does_not_apply(self):
+        """Another kind, a tag 8 elsewhere or cut short, or something that is told before it is read."""
+        counts, blocks, step = halves(7, 300, 1), halves(8, 1, 1), family(1, 3)
+        data = job(1, 10, (3, 4), blocks)
+        self.assert_excepted(6, False, b"", blocks, data[:-1], data[:-4], data[:-6], (data + bytes(65_536))[:65_536])
+        for kind, before in itertools.product((0, 2, 3, 4, 255), (b"", counts)):
+            self.assert_excepted(6, False, job(kind, 10, (3, 4), before, blocks))
+        self.assert_excepted(
+            6, False, job(1, 10, (3, 4)), job(1, 10, (3, 4), counts), job(1, 10, (3, 4), step, blocks),
+            job(1, 10, (3, 4), counts, step, blocks), job(1, 10, (3, 4), halves(9, 1, 1)),
+            model([(10, 3)], blocks), KIND_3 + blocks)
+        self.assert_not_with_short_buffers(6, data)
+
+    def test_request_6_behind_wrong_fields(self):
+        """Counts of wrong length, twice or cut short; a field of the head that is missing, elsewhere or too long."""
+        counts, blocks, fields = halves(7, 300, 1), halves(8, 1, 1), head(1, 10, (3, 4))
+        data = job(1, 10, (3, 4), counts, blocks)
+        self.assert_excepted(6, False, data[:-1], data[:-4], data[:-8], (data + bytes(65_536))[:65_536])
+        for wrong in (halves(7, 300), halves(7, 300, 1, 1), field(7, b""), field(7, bytes(3)), counts * 2,
+                      row(10, 3), field(9, b"")):
+            self.assert_excepted(6, False, job(1, 10, (3, 4), wrong, blocks))
+        for place, part in enumerate(fields):
+            before, behind = fields[:place], fields[place + 1:]
+            longer = field(part[0], part[3:] + b"\0")
+            self.assert_excepted(
+                6, False, b"".join(before + [blocks, part] + behind), b"".join(before + [blocks] + behind + [blocks]),
+                b"".join(before + behind + [blocks]), b"".join(before + [longer] + behind + [blocks]))
+        self.assert_not_with_short_buffers(6, data)
 
 
 class StoredForm(unittest.TestCase):

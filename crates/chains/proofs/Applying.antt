@@ -5,7 +5,9 @@ use Prim.Native.Nat.{ℕ, zero, suc, _+_, _-_, _≤_, _<_}
 use native.Mathlib.Numerals.{add-one}
 use native.Mathlib.Omega.{arith}
 use lib.ListN.{length, getD, drop, length-map, drop-of-length-le}
+use Rattle.functions.specs.Words.{EachWithin}
 use Rattle.functions.specs.Families.{familyImage, familyScale}
+use Rattle.functions.specs.Promise.{StepPromise}
 use Rattle.tables.specs.Table.{entry, tableScale}
 use Rattle.fields.specs.Parts.{Step, onFamily, onTable}
 use Rattle.chains.specs.Chain.{stepImage, stepScale, chainImage, chainScale, ChainAccepted}
@@ -24,6 +26,12 @@ image-at : (f : ℕ → ℕ) (xs : List ℕ) (i : ℕ) → i < length xs → get
 image-at f [] i l = absurd (omega arith)
 image-at f (x ∷ xs) zero l = refl
 image-at f (x ∷ xs) (suc i) l = image-at f xs i (omega arith)
+
+-- the images of sizes within the capacity are within the scale
+pub images-within : {f : ℕ → ℕ} {c d : ℕ} → StepPromise f c d → (xs : List ℕ) → EachWithin c xs → EachWithin d (map f xs)
+images-within {f} promise xs within i l =
+    let inside : i < length xs = omega (arith, length-map xs f) in
+    rw (image-at f xs i inside) (promise .image-within-scale (getD xs i 0) (within i inside))
 
 -- the images after i steps of an accepted chain, and what is left to do
 pub record Through (c : ℕ) (S : List Step) (old images : List ℕ) (present i : ℕ) : Type 0 where
@@ -58,7 +66,7 @@ module _ (c : ℕ) (S : List Step) (old : List ℕ) where
                   positive = promise .scale-positive;
                   within-limit = promise .scale-within-limit;
                   accepted = accepted .1;
-                  within = λ j l. rw (image-at (stepImage present s) images j (omega (arith, length-map images (stepImage present s)))) (promise .image-within-scale (getD images j 0) (t .left .within j (omega (arith, length-map images (stepImage present s)))));
+                  within = images-within promise images (t .left .within);
                 };
             same-length = length-map images (stepImage present s) ∙ t .same-length;
           })

@@ -1,6 +1,6 @@
 -- What the refusals of a list and of the steps leave of one that is accepted.
 use mathlib.Core.Path.{_≡_, refl, ap, sym, _∙_}
-use mathlib.Core.Bool.{not}
+use mathlib.Core.Bool.{Bool, true, false, cond, not}
 use mathlib.Core.List.{List, [], _∷_}
 use mathlib.Core.Logic.{⊎-elim}
 use Prim.Native.Nat.{ℕ, zero, suc, _-_, _<_}
@@ -21,10 +21,14 @@ use Rattle.chains.specs.Judge.{stepList, Refusal, plain, judgeChain, jud
 use Rattle.chains.proofs.Chains.{told-by-entries, table-accepted}
 use Rattle.chains.proofs.SizeTests.{sizes-most, given-positive}
 
--- 1, 17 and 22 are not 11
-list-other : (least c : ℕ) (sizes counts : List ℕ) → listRefusal least c sizes counts ≡ 11 → ⊥
+-- 1, 17, 22 and 23 are not 11
+list-other : (least c : ℕ) (sizes counts : List ℕ) (divided : Bool) → listRefusal least c sizes counts divided ≡ 11 → ⊥
 unfolding listRefusal
-list-other least c sizes counts e = three (λ n. n ≡ 11 → ⊥) (not (capacityFits c)) (not (sizesWithin least c sizes)) (not (countsPositive counts)) 1 17 22 (omega arith) (omega arith) (omega arith) (omega (arith, e)) e
+list-other least c sizes counts divided = behind (not (capacityFits c))
+  where
+    behind : (test : Bool) → _≡_ {A = ℕ} (cond test 1 (cond (not (sizesWithin least c sizes)) 17 (cond (not (countsPositive counts)) 22 (cond (not divided) 23 0)))) 11 → ⊥
+    behind true e = omega (arith, e)
+    behind false e = three (λ n. n ≡ 11 → ⊥) (not (sizesWithin least c sizes)) (not (countsPositive counts)) (not divided) 17 22 23 (omega arith) (omega arith) (omega arith) (omega (arith, e)) e
 
 chain-accepted : (steps : List Step) (c k : ℕ) → judgeChain c k steps .number ≡ 0 → ChainAccepted c steps
 unfolding judgeChain plain ChainAccepted
@@ -109,43 +113,55 @@ refused-overshoots steps c e =
     rw place at (chain-overshoots steps c 0 e .1)
 
 -- where no count is given, each is 1, and none is refused
-pub given-judged : (least c : ℕ) (sizes given : List ℕ) (n : ℕ) (S : List Step) → judgeList least c sizes (countsFor given n) S ≡ judgeList least c sizes given S
+pub given-judged : (least c : ℕ) (sizes given : List ℕ) (n : ℕ) (divided : Bool) (S : List Step) → judgeList least c sizes (countsFor given n) divided S ≡ judgeList least c sizes given divided S
 unfolding judgeList listRefusal
-given-judged least c sizes given n S = rw (given-positive given n)
+given-judged least c sizes given n divided S = rw (given-positive given n)
 
--- a list of sizes: refused by 1, 17 or 22, or the steps decide
-module _ (least c : ℕ) (sizes counts : List ℕ) (S : List Step) where
-  pub list-refused : (n : ℕ) → n ≡ listRefusal least c sizes counts → (n ≡ 0 → ⊥) → judgeList least c sizes counts S ≡ plain n
+-- a list of sizes: refused by 1, 17, 22 or 23, or the steps decide
+module _ (least c : ℕ) (sizes counts : List ℕ) (divided : Bool) (S : List Step) where
+  pub list-refused : (n : ℕ) → n ≡ listRefusal least c sizes counts divided → (n ≡ 0 → ⊥) → judgeList least c sizes counts divided S ≡ plain n
   unfolding judgeList
   list-refused n e some = rw (← e, ne-eqb n 0 some)
 
-  pub list-passed : listRefusal least c sizes counts ≡ 0 → judgeList least c sizes counts S ≡ judgeChain c 0 S
+  pub list-passed : listRefusal least c sizes counts divided ≡ 0 → judgeList least c sizes counts divided S ≡ judgeChain c 0 S
   unfolding judgeList
   list-passed e = rw (eq-eqb _ 0 e)
 
-  -- what holds of a refusal of 1, 17 or 22, and of one in a step, holds of a list's
-  list-judged : (P : Refusal → Type 0) → ((n : ℕ) → n ≡ listRefusal least c sizes counts → (n ≡ 0 → ⊥) → P (plain n)) → (listRefusal least c sizes counts ≡ 0 → P (judgeChain c 0 S)) → P (judgeList least c sizes counts S)
+  -- what holds of a refusal of 1, 17, 22 or 23, and of one in a step, holds of a list's
+  list-judged : (P : Refusal → Type 0) → ((n : ℕ) → n ≡ listRefusal least c sizes counts divided → (n ≡ 0 → ⊥) → P (plain n)) → (listRefusal least c sizes counts divided ≡ 0 → P (judgeChain c 0 S)) → P (judgeList least c sizes counts divided S)
   list-judged P outside inside =
       ⊎-elim
       (λ none. rw (list-passed none) (inside none))
       (λ some. rw (list-refused _ refl (omega arith)) (outside _ refl (omega arith)))
-      (eq-zero-or-pos (listRefusal least c sizes counts))
+      (eq-zero-or-pos (listRefusal least c sizes counts divided))
 
-  pub list-appliable : judgeList least c sizes counts S .number ≡ 0 → ChainAppliable c S sizes
+  pub list-appliable : judgeList least c sizes counts divided S .number ≡ 0 → ChainAppliable c S sizes
   unfolding plain listRefusal
   list-appliable = list-judged (λ r. r .number ≡ 0 → ChainAppliable c S sizes) (λ n is some none. absurd (some none)) passing
     where
-      passing : listRefusal least c sizes counts ≡ 0 → judgeChain c 0 S .number ≡ 0 → ChainAppliable c S sizes
+      passing : listRefusal least c sizes counts divided ≡ 0 → judgeChain c 0 S .number ≡ 0 → ChainAppliable c S sizes
       passing none fine =
           let one = passed (capacityFits c) 1 _ (omega arith) none in
           let two = passed (sizesWithin least c sizes) 17 _ (omega arith) (one .1) in
           let bounds = capacity-bounds c (one .0) in
           record { positive = bounds .0; within-limit = bounds .1; accepted = chain-accepted S c 0 fine; within = sizes-most least c sizes (two .0) }
 
-  pub list-none : judgeList least c sizes counts S .number ≡ 0 → judgeList least c sizes counts S ≡ plain 0
+  -- nor do its blocks refuse it
+  pub list-divided : judgeList least c sizes counts divided S .number ≡ 0 → divided ≡ true
+  unfolding plain listRefusal
+  list-divided = list-judged (λ r. r .number ≡ 0 → divided ≡ true) (λ n is some none. absurd (some none)) (λ none fine. passing none)
+    where
+      passing : listRefusal least c sizes counts divided ≡ 0 → divided ≡ true
+      passing none =
+          let one = passed (capacityFits c) 1 _ (omega arith) none in
+          let two = passed (sizesWithin least c sizes) 17 _ (omega arith) (one .1) in
+          let three = passed (countsPositive counts) 22 _ (omega arith) (two .1) in
+          passed divided 23 0 (omega arith) (three .1) .0
+
+  pub list-none : judgeList least c sizes counts divided S .number ≡ 0 → judgeList least c sizes counts divided S ≡ plain 0
   unfolding plain
   list-none = list-judged (λ r. r .number ≡ 0 → r ≡ plain 0) (λ n is some none. absurd (some none)) (λ _. chain-none S c 0)
 
-  pub list-overshoots : judgeList least c sizes counts S .number ≡ 11 → StepOvershoots c S (judgeList least c sizes counts S .step) (judgeList least c sizes counts S .list)
+  pub list-overshoots : judgeList least c sizes counts divided S .number ≡ 11 → StepOvershoots c S (judgeList least c sizes counts divided S .step) (judgeList least c sizes counts divided S .list)
   unfolding plain
-  list-overshoots = list-judged (λ r. r .number ≡ 11 → StepOvershoots c S (r .step) (r .list)) (λ n is some eleven. absurd (list-other least c sizes counts (sym is ∙ eleven))) (λ _. refused-overshoots S c)
+  list-overshoots = list-judged (λ r. r .number ≡ 11 → StepOvershoots c S (r .step) (r .list)) (λ n is some eleven. absurd (list-other least c sizes counts divided (sym is ∙ eleven))) (λ _. refused-overshoots S c)

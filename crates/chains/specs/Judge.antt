@@ -1,5 +1,5 @@
 -- Steps, and lists of sizes before them, judged in order, document 01, "Operations and what they refuse", Job.
-use mathlib.Core.Bool.{cond}
+use mathlib.Core.Bool.{Bool, cond}
 use mathlib.Core.Path.{_≡_}
 use mathlib.Core.List.{List, [], _∷_, _++_}
 use Prim.Native.Nat.{ℕ, suc, _-_, _≤_}
@@ -52,12 +52,12 @@ judgeChain c k (s ∷ steps) =
     (judgeChain (stepScale c s) (suc k) steps)
     (record { number = stepRefusal c s; row = 0; step = suc k; list = stepList (stepRefusal c s) s })
 
--- a list of sizes from `least` on with their counts at a capacity: 1, 17, 22, and then the steps in order
-unfoldable pub judgeList : ℕ → ℕ → List ℕ → List ℕ → List Step → Refusal
-judgeList least c sizes counts steps =
-    cond (eqb (listRefusal least c sizes counts) 0)
+-- a list of sizes from `least` on with their counts at a capacity, its blocks right or not: 1, 17, 22, 23, and then the steps in order
+unfoldable pub judgeList : ℕ → ℕ → List ℕ → List ℕ → Bool → List Step → Refusal
+judgeList least c sizes counts divided steps =
+    cond (eqb (listRefusal least c sizes counts divided) 0)
     (judgeChain c 0 steps)
-    (plain (listRefusal least c sizes counts))
+    (plain (listRefusal least c sizes counts divided))
 
 -- the entries of the table at a place of the chain, counted from 1
 unfoldable pub stepEntries : Step → List ℕ

@@ -10,7 +10,7 @@ ghost use Rattle.tables.specs.Table.{tableCapacity};
 ghost use Rattle.tables.specs.Check.{mostEntries};
 ghost use Rattle.fields.specs.Bytes.{halfwords, words};
 ghost use Rattle.fields.specs.Parts.{onFamily, onTable};
-ghost use Rattle.fields.specs.Record.{SpanWithin, spanBytes, CountsWithin, countBytes};
+ghost use Rattle.fields.specs.Record.{SpanWithin, spanBytes, HalfwordsWithin, halfwordBytes};
 ghost use Rattle.fields.specs.Record.{stepIn, StepWithin, stepsIn, StepsWithin};
 ghost use Rattle.chains.specs.Chain.{contentsRefusal, TablesPass};
 ghost use Rattle.chains.specs.Judge.{
@@ -192,25 +192,27 @@ fn judge_steps(
     plain(0)
 }
 
-// A list of sizes from `least` on with its counts: 1, 17, 22, and then the steps in order.
+// A list of sizes from `least` on with its counts, its blocks right or not: 1, 17, 22, 23, and then the
+// steps in order.
 pub fn judge_list(
     job: &[u8],
     steps: fields::JobSteps,
     capacity: u64,
     sizes: fields::Span,
     counts: fields::Span,
+    divided: bool,
     least: u64,
     checked: bool,
     working: &mut [u64],
     list: &mut [u32],
 ) -> Verdict
-    requires { ⌜ StepsWithin (now job) steps × SpanWithin (now job) sizes × CountsWithin (now job) counts
+    requires { ⌜ StepsWithin (now job) steps × SpanWithin (now job) sizes × HalfwordsWithin (now job) counts
         × CheckRoom (now working) (now list) × (checked ≡ true → TablesPass (stepsIn (now job) steps)) ⌝ }
     ensures { λ r. ⌜ Judged (judgeList least capacity (words (spanBytes (now (job .entry)) sizes))
-        (halfwords (countBytes (now (job .entry)) counts)) (stepsIn (now (job .entry)) steps))
+        (halfwords (halfwordBytes (now (job .entry)) counts)) divided (stepsIn (now (job .entry)) steps))
         (now (list .entry)) r (now (list .exit)) ⌝ }
 {
-    let refusal = list::refuse_list(job, capacity, sizes, counts, least);
+    let refusal = list::refuse_list(job, capacity, sizes, counts, divided, least);
     if refusal != 0 {
         return plain(refusal);
     }

@@ -2,14 +2,14 @@
 ghost use mathlib.Core.Path.{_≡_};
 ghost use mathlib.Core.Bool.{_&&_};
 ghost use mathlib.Core.Logic.{_⊎_};
-ghost use Prim.Native.Nat.{ℕ, _+_, _*_, _^_, _≤_, _<_};
+ghost use Prim.Native.Nat.{ℕ, _+_, _*_, _≤_, _<_};
 ghost use lib.Dec.{leb};
 ghost use lib.ListN.{length, getD};
-ghost use Rattle.functions.specs.Words.{mostCount, weighted};
+ghost use Rattle.functions.specs.Words.{mostCount, weighted, EachWithin};
 ghost use Rattle.fields.specs.Bytes.{halfwords, words};
 ghost use Rattle.fields.specs.Parts.{countsFor};
 ghost use Rattle.fields.specs.Grammar.{mostSizes};
-ghost use Rattle.fields.specs.Record.{SpanWithin, spanBytes, CountsWithin, countBytes};
+ghost use Rattle.fields.specs.Record.{SpanWithin, spanBytes, HalfwordsWithin, halfwordBytes};
 ghost use Rattle.chains.specs.Sizes.{sizesWithin, countsPositive, listRefusal, NoneOrEach};
 
 fn is_within(x: u64, least: u64, capacity: u64) -> bool
@@ -34,8 +34,8 @@ fn sizes_within(bytes: &[u8], n: usize, least: u64, capacity: u64) -> bool
     true
 }
 
-// Whether each of n counts is 1 or more.
-fn counts_positive(bytes: &[u8], n: usize) -> bool
+// Whether each of n numbers of two bytes is 1 or more.
+pub fn counts_positive(bytes: &[u8], n: usize) -> bool
     requires { ⌜ length (now bytes) ≡ 2 * n ⌝ }
     ensures { λ r. ⌜ r ≡ countsPositive (halfwords (now (bytes .entry))) ⌝ }
 {
@@ -49,17 +49,18 @@ fn counts_positive(bytes: &[u8], n: usize) -> bool
     true
 }
 
-// Refusals 1, 17 and 22.
+// Refusals 1, 17, 22 and 23; `divided` says whether the list's blocks are right.
 pub(crate) fn refuse_list(
     job: &[u8],
     capacity: u64,
     sizes: fields::Span,
     counts: fields::Span,
+    divided: bool,
     least: u64,
 ) -> u64
-    requires { ⌜ SpanWithin (now job) sizes × CountsWithin (now job) counts ⌝ }
+    requires { ⌜ SpanWithin (now job) sizes × HalfwordsWithin (now job) counts ⌝ }
     ensures { λ r. ⌜ r ≡ listRefusal least capacity (words (spanBytes (now (job .entry)) sizes))
-        (halfwords (countBytes (now (job .entry)) counts)) ⌝ }
+        (halfwords (halfwordBytes (now (job .entry)) counts)) divided ⌝ }
 {
     if !functions::capacity_fits(capacity) {
         return 1;
@@ -67,8 +68,11 @@ pub(crate) fn refuse_list(
     if !sizes_within(fields::span_bytes(job, sizes), sizes.n, least, capacity) {
         return 17;
     }
-    if !counts_positive(fields::count_bytes(job, counts), counts.n) {
+    if !counts_positive(fields::halfword_bytes(job, counts), counts.n) {
         return 22;
+    }
+    if !divided {
+        return 23;
     }
     0
 }
@@ -85,11 +89,12 @@ fn count_at(bytes: &[u8], i: usize) -> u64
     fields::words::halfword_at(bytes, 2 * i)
 }
 
-// Sums count times number.
+// Sums count times number: at most the greatest of both for each number.
 pub fn sum_of(bytes: &[u8], list: &[u32]) -> u64
     requires { ⌜ NoneOrEach (now bytes) (length (now list)) × (length (now list) ≤ mostSizes) ⌝ }
     ensures { λ r. ⌜ (r ≡ weighted (countsFor (halfwords (now (bytes .entry))) (length (now (list .entry))))
-        (now (list .entry))) × (r ≤ mostSizes * (mostCount * 2 ^ 32)) ⌝ }
+        (now (list .entry)))
+        × ((most : ℕ) → EachWithin most (now (list .entry)) → r ≤ length (now (list .entry)) * (mostCount * most)) ⌝ }
 {
     let mut sum = 0;
     let mut i = 0;

@@ -13,15 +13,15 @@ use lib.ListN.{length, getD, take, drop, set, length-set, length-map, length-dro
 use lib.Seq.{take-suc-set, getD-set-same, getD-set-other, length-take-le}
 use Rattle.tables.specs.Check.{mostEntries}
 use Rattle.fields.specs.Bytes.{word, numbersFrom, halfwords, words}
-use Rattle.fields.specs.Parts.{Field, fieldOf, valueOf, Step, onFamily, onTable, stepOf, Row, rowOf, jobKind, jobCapacity, jobSizes, jobSteps, jobRows, coefficientCount}
+use Rattle.fields.specs.Parts.{Field, fieldOf, valueOf, Step, onFamily, onTable, stepOf, Row, rowOf, jobKind, jobCapacity, jobSizes, blockNumbers, jobSteps, jobRows, coefficientCount}
 use Rattle.fields.specs.Grammar.{mostSizes, mostSteps, lengthRight}
-use Rattle.fields.specs.Record.{spanBytes, SpanWithin, countBytes, CountsWithin, noSpan, stepIn, stepsIn, familyStep, StepWithin, noStep, StepsWithin, PartsOf, NextField}
+use Rattle.fields.specs.Record.{spanBytes, SpanWithin, halfwordBytes, HalfwordsWithin, noSpan, stepIn, stepsIn, familyStep, StepWithin, noStep, StepsWithin, BlocksOf, PartsOf, NextField}
 use Rattle.fields.specs.declared.Span.{Span}
 use Rattle.fields.specs.declared.JobStep.{JobStep}
 use Rattle.fields.specs.declared.JobSteps.{JobSteps}
 use Rattle.fields.specs.declared.JobParts.{JobParts}
-use Rattle.fields.proofs.Decoding.{words-length}
-use Rattle.fields.proofs.Following.{value-other, step-is, step-more, steps-kept, no-step, row-more, rows-kept, row-tag-is, no-row}
+use Rattle.fields.proofs.Decoding.{words-length, halfwords-are}
+use Rattle.fields.proofs.Following.{value-other, blocks-new, blocks-same, step-is, step-more, steps-kept, no-step, row-more, rows-kept, row-tag-is, no-row}
 
 -- the lengths that a tag may have, as facts
 pub kind-length : (sizes n : ℕ) → lengthRight sizes 1 n ≡ true → n ≡ 1
@@ -52,6 +52,10 @@ pub counts-length : (sizes n : ℕ) → lengthRight sizes 7 n ≡ true → n ≡
 unfolding lengthRight
 counts-length sizes n e = eqb-true n (2 * sizes) e
 
+pub blocks-length : (sizes n : ℕ) → lengthRight sizes 8 n ≡ true → n % 2 ≡ 0
+unfolding lengthRight
+blocks-length sizes n e = eqb-true (n % 2) 0 e
+
 pub table-length : (sizes n : ℕ) → lengthRight sizes 5 n ≡ true → (n % 4 ≡ 0) × (8 ≤ n) × (n ≤ 4 * mostEntries)
 unfolding lengthRight
 table-length sizes n e =
@@ -63,12 +67,12 @@ pub span-length : (job : List ℕ) (s : Span) → SpanWithin job s → length (s
 unfolding spanBytes
 span-length job s within = length-take-le (4 * s .n) (drop (s .at) job) (omega (arith, length-drop (s .at) job))
 
-pub counts-length-is : (job : List ℕ) (s : Span) → CountsWithin job s → length (countBytes job s) ≡ 2 * s .n
-unfolding countBytes
-counts-length-is job s within = length-take-le (2 * s .n) (drop (s .at) job) (omega (arith, length-drop (s .at) job))
+pub halfwords-length-is : (job : List ℕ) (s : Span) → HalfwordsWithin job s → length (halfwordBytes job s) ≡ 2 * s .n
+unfolding halfwordBytes
+halfwords-length-is job s within = length-take-le (2 * s .n) (drop (s .at) job) (omega (arith, length-drop (s .at) job))
 
-pub no-counts : (job : List ℕ) → halfwords (countBytes job noSpan) ≡ []
-unfolding countBytes halfwords numbersFrom
+pub no-counts : (job : List ℕ) → halfwords (halfwordBytes job noSpan) ≡ []
+unfolding halfwordBytes halfwords numbersFrom
 no-counts job = refl
 
 -- the coefficients of a row behind its right side
@@ -103,6 +107,13 @@ pub sizes-count : (job : List ℕ) (fields : List Field) (parts : JobParts) → 
 sizes-count job fields parts h =
     sym (words-length (parts .sizes .n) (spanBytes job (parts .sizes)) (span-length job (parts .sizes) (h .sizes-within))) ∙ ap length (h .sizes-are)
 
+-- as many blocks
+pub blocks-count : (job : List ℕ) (fields : List Field) (parts : JobParts) → PartsOf job fields parts → parts .blocks .n ≡ length (blockNumbers fields)
+unfolding blockNumbers
+blocks-count job fields parts h =
+    sym (halfwords-are (parts .blocks .n) (halfwordBytes job (parts .blocks)) (halfwords-length-is job (parts .blocks) (h .blocks-are .within)) .count)
+    ∙ ap (λ (bytes : List ℕ). length (halfwords bytes)) (h .blocks-are .given)
+
 module _ (job : List ℕ) (fields : List Field) (parts : JobParts) (h : PartsOf job fields parts) (tag at : ℕ) (value : List ℕ) (n : NextField job fields tag at value) where
   abbrev f : Field
   f = fieldOf tag value
@@ -133,13 +144,22 @@ module _ (job : List ℕ) (fields : List Field) (parts : JobParts) (h : PartsOf 
   unfolding jobSizes
   sizes-kept other = h .sizes-are ∙ ap words (sym (value-other f 3 fields other))
 
-  counts-kept : (tag ≡ 7 → ⊥) → countBytes job (parts .counts) ≡ valueOf 7 (fields ++ (f ∷ []))
+  counts-kept : (tag ≡ 7 → ⊥) → halfwordBytes job (parts .counts) ≡ valueOf 7 (fields ++ (f ∷ []))
   counts-kept other = h .counts-given ∙ sym (value-other f 7 fields other)
+
+  blocks-kept : (tag ≡ 8 → ⊥) → BlocksOf job (fields ++ (f ∷ [])) (parts .blocks) (parts .divided)
+  blocks-kept other =
+      let same = h .blocks-are in
+      record {
+        given = same .given ∙ sym (value-other f 8 fields other);
+        within = same .within;
+        there-is = same .there-is ∙ sym (blocks-same f fields other);
+      }
 
   -- before the sizes there are no counts
   uncounted : tag ≡ 3 → parts .counts .n ≡ 0
   uncounted three =
-      omega (arith, counts-length-is job (parts .counts) (h .counts-within), ap length (h .counts-given ∙ n .uncounted three))
+      omega (arith, halfwords-length-is job (parts .counts) (h .counts-within), ap length (h .counts-given ∙ n .uncounted three))
 
   no-step-more : (tag ≡ 4 → ⊥) → (tag ≡ 5 → ⊥) → stepsIn job (parts .steps) ≡ jobSteps (fields ++ (f ∷ []))
   no-step-more four five = h .steps-are ∙ sym (steps-kept f fields (no-step tag four five))
@@ -150,7 +170,7 @@ module _ (job : List ℕ) (fields : List Field) (parts : JobParts) (h : PartsOf 
   coefficients-kept : (tag ≡ 6 → ⊥) → parts .coefficients ≡ coefficientCount (jobRows (fields ++ (f ∷ [])))
   coefficients-kept other = h .coefficients-count ∙ ap coefficientCount (sym (rows-kept f fields (no-row tag other)))
 
-  pub with-kind : tag ≡ 1 → PartsOf job (fields ++ (f ∷ [])) (record { kind = getD value 0 0; capacity = parts .capacity; sizes = parts .sizes; counts = parts .counts; steps = parts .steps; rows = parts .rows; coefficients = parts .coefficients })
+  pub with-kind : tag ≡ 1 → PartsOf job (fields ++ (f ∷ [])) (record { kind = getD value 0 0; capacity = parts .capacity; sizes = parts .sizes; counts = parts .counts; blocks = parts .blocks; divided = parts .divided; steps = parts .steps; rows = parts .rows; coefficients = parts .coefficients })
   unfolding jobKind
   with-kind e =
       record {
@@ -162,13 +182,14 @@ module _ (job : List ℕ) (fields : List Field) (parts : JobParts) (h : PartsOf 
         counts-given = counts-kept (λ o. omega arith);
         counts-within = h .counts-within;
         none-or-each = h .none-or-each;
+        blocks-are = blocks-kept (λ o. omega arith);
         steps-are = no-step-more (λ o. omega arith) (λ o. omega arith);
         steps-within = h .steps-within;
         rows-count = rows-count-kept (λ o. omega arith);
         coefficients-count = coefficients-kept (λ o. omega arith);
       }
 
-  pub with-capacity : tag ≡ 2 → (d : ℕ) → d ≡ word value 0 → PartsOf job (fields ++ (f ∷ [])) (record { kind = parts .kind; capacity = d; sizes = parts .sizes; counts = parts .counts; steps = parts .steps; rows = parts .rows; coefficients = parts .coefficients })
+  pub with-capacity : tag ≡ 2 → (d : ℕ) → d ≡ word value 0 → PartsOf job (fields ++ (f ∷ [])) (record { kind = parts .kind; capacity = d; sizes = parts .sizes; counts = parts .counts; blocks = parts .blocks; divided = parts .divided; steps = parts .steps; rows = parts .rows; coefficients = parts .coefficients })
   unfolding jobCapacity
   with-capacity e d is =
       record {
@@ -180,13 +201,14 @@ module _ (job : List ℕ) (fields : List Field) (parts : JobParts) (h : PartsOf 
         counts-given = counts-kept (λ o. omega arith);
         counts-within = h .counts-within;
         none-or-each = h .none-or-each;
+        blocks-are = blocks-kept (λ o. omega arith);
         steps-are = no-step-more (λ o. omega arith) (λ o. omega arith);
         steps-within = h .steps-within;
         rows-count = rows-count-kept (λ o. omega arith);
         coefficients-count = coefficients-kept (λ o. omega arith);
       }
 
-  pub with-sizes : tag ≡ 3 → PartsOf job (fields ++ (f ∷ [])) (record { kind = parts .kind; capacity = parts .capacity; sizes = value-span; counts = parts .counts; steps = parts .steps; rows = parts .rows; coefficients = parts .coefficients })
+  pub with-sizes : tag ≡ 3 → PartsOf job (fields ++ (f ∷ [])) (record { kind = parts .kind; capacity = parts .capacity; sizes = value-span; counts = parts .counts; blocks = parts .blocks; divided = parts .divided; steps = parts .steps; rows = parts .rows; coefficients = parts .coefficients })
   unfolding jobSizes
   with-sizes e =
       let right = sizes-length _ (length value) (rw e at (n .length-right)) in
@@ -199,38 +221,72 @@ module _ (job : List ℕ) (fields : List Field) (parts : JobParts) (h : PartsOf 
         counts-given = counts-kept (λ o. omega arith);
         counts-within = h .counts-within;
         none-or-each = inl (uncounted e);
+        blocks-are = blocks-kept (λ o. omega arith);
         steps-are = no-step-more (λ o. omega arith) (λ o. omega arith);
         steps-within = h .steps-within;
         rows-count = rows-count-kept (λ o. omega arith);
         coefficients-count = coefficients-kept (λ o. omega arith);
       }
 
-  -- the span of a value of counts
-  abbrev pub count-span : Span
-  count-span = record { at = at; n = length value / 2 }
+  -- the span of a value of numbers of two bytes
+  abbrev pub halves-span : Span
+  halves-span = record { at = at; n = length value / 2 }
 
-  pub with-counts : tag ≡ 7 → PartsOf job (fields ++ (f ∷ [])) (record { kind = parts .kind; capacity = parts .capacity; sizes = parts .sizes; counts = count-span; steps = parts .steps; rows = parts .rows; coefficients = parts .coefficients })
-  unfolding countBytes
+  halves-within : HalfwordsWithin job halves-span
+  halves-within = omega (arith, n .value-within)
+
+  -- of a tag that is new
+  halves-given : length value % 2 ≡ 0 → 7 ≤ tag → halfwordBytes job halves-span ≡ valueOf tag (fields ++ (f ∷ []))
+  unfolding halfwordBytes
+  halves-given even late =
+      let same : 2 * (length value / 2) ≡ length value = omega (arith, even) in
+      ap (λ (k : ℕ). take k (drop at job)) same ∙ sym (n .value-at) ∙ sym (n .new (inr late))
+
+  pub with-counts : tag ≡ 7 → PartsOf job (fields ++ (f ∷ [])) (record { kind = parts .kind; capacity = parts .capacity; sizes = parts .sizes; counts = halves-span; blocks = parts .blocks; divided = parts .divided; steps = parts .steps; rows = parts .rows; coefficients = parts .coefficients })
   with-counts e =
       let right = counts-length _ (length value) (rw e at (n .length-right)) in
       let each : length value / 2 ≡ parts .sizes .n = omega (arith, right, sizes-count job fields parts h) in
-      let same : 2 * (length value / 2) ≡ length value = omega (arith, right) in
       record {
         kind-is = kind-kept (λ o. omega arith);
         capacity-is = capacity-kept (λ o. omega arith);
         sizes-are = sizes-kept (λ o. omega arith);
         sizes-within = h .sizes-within;
         sizes-most = h .sizes-most;
-        counts-given = ap (λ (k : ℕ). take k (drop at job)) same ∙ sym (n .value-at) ∙ sym (n .new (inr e)) ∙ ap (λ (t : ℕ). valueOf t (fields ++ (f ∷ []))) e;
-        counts-within = omega (arith, n .value-within);
+        counts-given = halves-given (omega (arith, right)) (omega arith) ∙ ap (λ (t : ℕ). valueOf t (fields ++ (f ∷ []))) e;
+        counts-within = halves-within;
         none-or-each = inr each;
+        blocks-are = blocks-kept (λ o. omega arith);
         steps-are = no-step-more (λ o. omega arith) (λ o. omega arith);
         steps-within = h .steps-within;
         rows-count = rows-count-kept (λ o. omega arith);
         coefficients-count = coefficients-kept (λ o. omega arith);
       }
 
-  pub with-row : tag ≡ 6 → PartsOf job (fields ++ (f ∷ [])) (record { kind = parts .kind; capacity = parts .capacity; sizes = parts .sizes; counts = parts .counts; steps = parts .steps; rows = parts .rows + 1; coefficients = parts .coefficients + (length value / 4 - 1) })
+  pub with-blocks : tag ≡ 8 → PartsOf job (fields ++ (f ∷ [])) (record { kind = parts .kind; capacity = parts .capacity; sizes = parts .sizes; counts = parts .counts; blocks = halves-span; divided = true; steps = parts .steps; rows = parts .rows; coefficients = parts .coefficients })
+  with-blocks e =
+      let even = blocks-length _ (length value) (rw e at (n .length-right)) in
+      record {
+        kind-is = kind-kept (λ o. omega arith);
+        capacity-is = capacity-kept (λ o. omega arith);
+        sizes-are = sizes-kept (λ o. omega arith);
+        sizes-within = h .sizes-within;
+        sizes-most = h .sizes-most;
+        counts-given = counts-kept (λ o. omega arith);
+        counts-within = h .counts-within;
+        none-or-each = h .none-or-each;
+        blocks-are =
+            record {
+              given = halves-given even (omega arith) ∙ ap (λ (t : ℕ). valueOf t (fields ++ (f ∷ []))) e;
+              within = halves-within;
+              there-is = sym (blocks-new f fields e);
+            };
+        steps-are = no-step-more (λ o. omega arith) (λ o. omega arith);
+        steps-within = h .steps-within;
+        rows-count = rows-count-kept (λ o. omega arith);
+        coefficients-count = coefficients-kept (λ o. omega arith);
+      }
+
+  pub with-row : tag ≡ 6 → PartsOf job (fields ++ (f ∷ [])) (record { kind = parts .kind; capacity = parts .capacity; sizes = parts .sizes; counts = parts .counts; blocks = parts .blocks; divided = parts .divided; steps = parts .steps; rows = parts .rows + 1; coefficients = parts .coefficients + (length value / 4 - 1) })
   unfolding rowOf
   with-row e =
       let more = row-more f fields (row-tag-is tag e) in
@@ -244,6 +300,7 @@ module _ (job : List ℕ) (fields : List Field) (parts : JobParts) (h : PartsOf 
         counts-given = counts-kept (λ o. omega arith);
         counts-within = h .counts-within;
         none-or-each = h .none-or-each;
+        blocks-are = blocks-kept (λ o. omega arith);
         steps-are = no-step-more (λ o. omega arith) (λ o. omega arith);
         steps-within = h .steps-within;
         rows-count = rw more (omega (arith, h .rows-count, length-append (jobRows fields) (rowOf f ∷ [])));
@@ -276,7 +333,7 @@ module _ (job : List ℕ) (fields : List Field) (parts : JobParts) (h : PartsOf 
     earlier : (i : ℕ) → i < parts .steps .count → StepWithin job (getD (steps′ .items) i noStep)
     earlier i l = rw (getD-set-other (parts .steps .items) (parts .steps .count) i s noStep (omega arith)) (h .steps-within .each i l)
 
-    pub with-step : PartsOf job (fields ++ (f ∷ [])) (record { kind = parts .kind; capacity = parts .capacity; sizes = parts .sizes; counts = parts .counts; steps = steps′; rows = parts .rows; coefficients = parts .coefficients })
+    pub with-step : PartsOf job (fields ++ (f ∷ [])) (record { kind = parts .kind; capacity = parts .capacity; sizes = parts .sizes; counts = parts .counts; blocks = parts .blocks; divided = parts .divided; steps = steps′; rows = parts .rows; coefficients = parts .coefficients })
     with-step =
         record {
           kind-is = kind-kept (λ o. omega (arith, range));
@@ -287,6 +344,7 @@ module _ (job : List ℕ) (fields : List Field) (parts : JobParts) (h : PartsOf 
           counts-given = counts-kept (λ o. omega (arith, range));
           counts-within = h .counts-within;
           none-or-each = h .none-or-each;
+          blocks-are = blocks-kept (λ o. omega (arith, range));
           steps-are = one-more ∙ ap (λ (l : List Step). l ++ (stepOf f ∷ [])) (h .steps-are) ∙ sym (step-more f fields (step-is tag step));
           steps-within =
               record {

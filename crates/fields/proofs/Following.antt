@@ -1,6 +1,6 @@
 -- Fields one behind the other: what the parts by tag gain from one more field, and which tags may follow.
 use mathlib.Core.Path.{_≡_, refl, ap, _∙_}
-use mathlib.Core.Bool.{Bool, true, false, cond, not, _&&_, _||_, and-eq-true-iff}
+use mathlib.Core.Bool.{Bool, true, false, cond, not, _&&_, _||_, or-true, and-eq-true-iff}
 use mathlib.Core.List.{List, [], _∷_, _++_, map, map-append}
 use mathlib.Core.Logic.{_⊎_, inl, inr, ⊎-elim}
 use Prim.Native.Nat.{ℕ, suc, _+_, _≤_, _<_}
@@ -8,8 +8,8 @@ use native.Mathlib.Omega.{arith}
 use borrow.Author.Tests.{eqb-true, ltb-true, eq-eqb, ne-eqb, not-false}
 use lib.Dec.{ltb, eqb}
 use Rattle.functions.proofs.Cases.{lt-or-ge, not-refused}
-use Rattle.fields.specs.Parts.{Field, valueOf, isStep, stepOf, chosen, jobSteps, rowOf, isRow, jobRows, lastTagFrom, lastTag}
-use Rattle.fields.specs.Grammar.{mostSteps, floorKind, rowsKind, stepFollows, rowFollows, countsFollow, mayFollow, lengthRight}
+use Rattle.fields.specs.Parts.{Field, valueOf, blocksThere, isStep, stepOf, chosen, jobSteps, rowOf, isRow, jobRows, lastTagFrom, lastTag}
+use Rattle.fields.specs.Grammar.{mostSteps, floorKind, rowsKind, stepFollows, rowFollows, countsFollow, blocksFollow, mayFollow, lengthRight}
 use Rattle.fields.specs.Reading.{headerRefusal}
 use Rattle.fields.specs.declared.Header.{Header}
 
@@ -38,6 +38,16 @@ module _ (f : Field) where
   unfolding valueOf
   value-other t [] other = rw (ne-eqb (f .tag) t other)
   value-other t (g ∷ fields) other = ap (λ (v : List ℕ). cond (eqb (g .tag) t) (g .value) v) (value-other t fields other)
+
+  pub blocks-new : (fields : List Field) → f .tag ≡ 8 → blocksThere (fields ++ (f ∷ [])) ≡ true
+  unfolding blocksThere
+  blocks-new [] same = rw (eq-eqb (f .tag) 8 same)
+  blocks-new (g ∷ fields) same = rw (blocks-new fields same) (or-true (eqb (g .tag) 8))
+
+  pub blocks-same : (fields : List Field) → (f .tag ≡ 8 → ⊥) → blocksThere (fields ++ (f ∷ [])) ≡ blocksThere fields
+  unfolding blocksThere
+  blocks-same [] other = rw (ne-eqb (f .tag) 8 other)
+  blocks-same (g ∷ fields) other = ap (λ (t : Bool). eqb (g .tag) 8 || t) (blocks-same fields other)
 
   -- one more of the fields whose tag passes a test, or none
   module _ (test : ℕ → Bool) where
@@ -114,14 +124,18 @@ passed h kind last steps sizes fine =
     let three = not-refused (not (lengthRight sizes (h .tag) (h .length))) 15 0 (omega arith) (two .1) in
     record { within = not-false _ (one .0); follows = not-false _ (two .0); right = not-false _ (three .0) }
 
+-- one of two numbers
+either : (n a b : ℕ) → (eqb n a || eqb n b) ≡ true → (n ≡ a) ⊎ (n ≡ b)
+either n a b = go (eqb n a) refl
+  where
+    go : (test : Bool) → eqb n a ≡ test → (test || eqb n b) ≡ true → (n ≡ a) ⊎ (n ≡ b)
+    go true first e = inl (eqb-true n a first)
+    go false first e = inr (eqb-true n b e)
+
 -- a step's tag is 4 or 5
 pub step-tags : (tag : ℕ) → isStep tag ≡ true → (tag ≡ 4) ⊎ (tag ≡ 5)
 unfolding isStep
-step-tags tag is = go (eqb tag 4) refl is
-  where
-    go : (test : Bool) → eqb tag 4 ≡ test → (test || eqb tag 5) ≡ true → (tag ≡ 4) ⊎ (tag ≡ 5)
-    go true four e = inl (eqb-true tag 4 four)
-    go false four e = inr (eqb-true tag 5 e)
+step-tags tag is = either tag 4 5 is
 
 pub step-is : (tag : ℕ) → (tag ≡ 4) ⊎ (tag ≡ 5) → isStep tag ≡ true
 unfolding isStep
@@ -144,29 +158,30 @@ pub no-row : (tag : ℕ) → (tag ≡ 6 → ⊥) → isRow tag ≡ false
 unfolding isRow
 no-row tag e = ne-eqb tag 6 e
 
--- a tag that may follow: the next of 1, 2 and 3, a row, counts behind sizes, or a step behind fewer than eight
+-- a tag that may follow: the next of 1, 2 and 3, a row, counts behind sizes, blocks behind these or counts, or a step behind fewer than eight
 pub record Followed (last steps tag : ℕ) : Type 0 where
-  pub known : (1 ≤ tag) × (tag ≤ 7)
+  pub known : (1 ≤ tag) × (tag ≤ 8)
   pub low : tag < 4 → tag ≡ suc last
   pub counts : tag ≡ 7 → last ≡ 3
+  pub blocks : tag ≡ 8 → (last ≡ 3) ⊎ (last ≡ 7)
   pub step : (tag ≡ 4) ⊎ (tag ≡ 5) → steps < mostSteps
 
 module _ (last steps tag : ℕ) where
   next-tag : tag ≡ suc last → last < 3 → Followed last steps tag
-  next-tag e l = record { known = omega arith; low = λ _. e; counts = λ m. absurd (omega arith); step = λ m. absurd (⊎-elim (λ four. omega arith) (λ five. omega arith) m) }
+  next-tag e l = record { known = omega arith; low = λ _. e; counts = λ m. absurd (omega arith); blocks = λ m. absurd (omega arith); step = λ m. absurd (⊎-elim (λ four. omega arith) (λ five. omega arith) m) }
 
   step-tag : stepFollows steps tag ≡ true → Followed last steps tag
   unfolding stepFollows
   step-tag e =
       let parts = and-eq-true-iff (isStep tag) (ltb steps mostSteps) .0 e in
       let range : (4 ≤ tag) × (tag ≤ 5) = ⊎-elim (λ four. omega arith) (λ five. omega arith) (step-tags tag (parts .0)) in
-      record { known = omega arith; low = λ l. absurd (omega arith); counts = λ seven. absurd (omega arith); step = λ _. ltb-true steps mostSteps (parts .1) }
+      record { known = omega arith; low = λ l. absurd (omega arith); counts = λ seven. absurd (omega arith); blocks = λ eight. absurd (omega arith); step = λ _. ltb-true steps mostSteps (parts .1) }
 
   row-tag : rowFollows last tag ≡ true → Followed last steps tag
   unfolding rowFollows
   row-tag e =
       let six = tag-is-six tag (and-eq-true-iff (not (isStep last)) (isRow tag) .0 e .1) in
-      record { known = omega arith; low = λ l. absurd (omega arith); counts = λ seven. absurd (omega arith); step = λ m. absurd (⊎-elim (λ four. omega arith) (λ five. omega arith) m) }
+      record { known = omega arith; low = λ l. absurd (omega arith); counts = λ seven. absurd (omega arith); blocks = λ eight. absurd (omega arith); step = λ m. absurd (⊎-elim (λ four. omega arith) (λ five. omega arith) m) }
 
   counts-tag : (kind : ℕ) → countsFollow kind last tag ≡ true → Followed last steps tag
   unfolding countsFollow
@@ -174,22 +189,33 @@ module _ (last steps tag : ℕ) where
       let parts = and-eq-true-iff (eqb last 3) (eqb tag 7) .0 (and-eq-true-iff (eqb kind floorKind) (eqb last 3 && eqb tag 7) .0 e .1) in
       let three = eqb-true last 3 (parts .0) in
       let seven = eqb-true tag 7 (parts .1) in
-      record { known = omega arith; low = λ l. absurd (omega arith); counts = λ _. three; step = λ m. absurd (⊎-elim (λ four. omega arith) (λ five. omega arith) m) }
+      record { known = omega arith; low = λ l. absurd (omega arith); counts = λ _. three; blocks = λ eight. absurd (omega arith); step = λ m. absurd (⊎-elim (λ four. omega arith) (λ five. omega arith) m) }
 
-  -- what may follow here and there, or a step
-  or-step : (here test : Bool) → here ≡ test → (here ≡ true → Followed last steps tag) → (test || stepFollows steps tag) ≡ true → Followed last steps tag
-  or-step here true is follows e = follows is
-  or-step here false is follows e = step-tag e
+  blocks-tag : (kind : ℕ) → blocksFollow kind last tag ≡ true → Followed last steps tag
+  unfolding blocksFollow
+  blocks-tag kind e =
+      let parts = and-eq-true-iff (eqb last 3 || eqb last 7) (eqb kind floorKind && eqb tag 8) .0 e in
+      let eight = eqb-true tag 8 (and-eq-true-iff (eqb kind floorKind) (eqb tag 8) .0 (parts .1) .1) in
+      record { known = omega arith; low = λ l. absurd (omega arith); counts = λ seven. absurd (omega arith); blocks = λ _. either last 3 7 (parts .0); step = λ m. absurd (⊎-elim (λ four. omega arith) (λ five. omega arith) m) }
+
+  -- what one test or another lets follow
+  or-else : (one other : Bool) → (one ≡ true → Followed last steps tag) → (other ≡ true → Followed last steps tag) → (one || other) ≡ true → Followed last steps tag
+  or-else true other here there e = here refl
+  or-else false other here there e = there e
 
   -- behind tag 1, by the kind
-  behind-first : (kind : ℕ) (test : Bool) → (last < 1 → ⊥) → cond test (rowFollows last tag || stepFollows steps tag) (cond (eqb last 1) (eqb tag 2) (cond (eqb last 2) (eqb tag 3) (countsFollow kind last tag || stepFollows steps tag))) ≡ true → Followed last steps tag
-  behind-first kind true some e = or-step (rowFollows last tag) (rowFollows last tag) refl row-tag e
+  behind-first : (kind : ℕ) (test : Bool) → (last < 1 → ⊥) → cond test (rowFollows last tag || stepFollows steps tag) (cond (eqb last 1) (eqb tag 2) (cond (eqb last 2) (eqb tag 3) (countsFollow kind last tag || blocksFollow kind last tag || stepFollows steps tag))) ≡ true → Followed last steps tag
+  behind-first kind true some e = or-else (rowFollows last tag) (stepFollows steps tag) row-tag step-tag e
   behind-first kind false some e = go (lt-or-ge last 2) (lt-or-ge last 3)
     where
       go : (last < 2) ⊎ (2 ≤ last) → (last < 3) ⊎ (3 ≤ last) → Followed last steps tag
       go (inl l) d = next-tag (omega (arith, eqb-true tag 2 (rw (eq-eqb last 1 (omega arith)) at e))) (omega arith)
       go (inr a) (inl l) = next-tag (omega (arith, eqb-true tag 3 (rw (ne-eqb last 1 (omega arith), eq-eqb last 2 (omega arith)) at e))) (omega arith)
-      go (inr a) (inr l) = or-step (countsFollow kind last tag) (countsFollow kind last tag) refl (counts-tag kind) (rw (ne-eqb last 1 (omega arith), ne-eqb last 2 (omega arith)) at e)
+      go (inr a) (inr l) =
+          or-else (countsFollow kind last tag || blocksFollow kind last tag) (stepFollows steps tag)
+          (or-else (countsFollow kind last tag) (blocksFollow kind last tag) (counts-tag kind) (blocks-tag kind))
+          step-tag
+          (rw (ne-eqb last 1 (omega arith), ne-eqb last 2 (omega arith)) at e)
 
   pub follows : (kind : ℕ) → mayFollow kind last steps tag ≡ true → Followed last steps tag
   unfolding mayFollow
@@ -199,22 +225,29 @@ module _ (last steps tag : ℕ) where
       (λ m. behind-first kind (eqb kind rowsKind) (λ l. omega arith) (rw (ne-eqb last 0 (omega arith)) at e))
       (lt-or-ge last 1)
 
--- tags 1, 2 and 3 that are behind the last one have not come yet, and no counts before a tag over 3
+-- tags 1, 2 and 3 that are behind the last one have not come yet, no counts before a tag over 3, and no blocks before a tag over 3 but counts
 pub record Ordered (fields : List Field) : Type 0 where
   pub absent : (t : ℕ) → lastTag fields < t → t < 4 → Absent t fields
   pub uncounted : lastTag fields < 4 → Absent 7 fields
+  pub undivided : (lastTag fields < 4) ⊎ (lastTag fields ≡ 7) → Absent 8 fields
 
 pub ordered-none : Ordered []
 unfolding Absent
-ordered-none = record { absent = λ t l m. tt; uncounted = λ l. tt }
+ordered-none = record { absent = λ t l m. tt; uncounted = λ l. tt; undivided = λ l. tt }
 
 module _ (fields : List Field) (f : Field) (kind steps : ℕ) (o : Ordered fields) (may : mayFollow kind (lastTag fields) steps (f .tag) ≡ true) where
   followed : Followed (lastTag fields) steps (f .tag)
   followed = follows (lastTag fields) steps (f .tag) kind may
 
-  pub follows-new : (f .tag < 4) ⊎ (f .tag ≡ 7) → Absent (f .tag) fields
+  pub follows-new : (f .tag < 4) ⊎ (7 ≤ f .tag) → Absent (f .tag) fields
   follows-new (inl l) = o .absent (f .tag) (omega (arith, followed .low l)) l
-  follows-new (inr seven) = rw seven (o .uncounted (omega (arith, followed .counts seven)))
+  follows-new (inr late) = ⊎-elim (λ l. counts (omega arith)) (λ m. blocks (omega (arith, followed .known))) (lt-or-ge (f .tag) 8)
+    where
+      counts : f .tag ≡ 7 → Absent (f .tag) fields
+      counts seven = rw seven (o .uncounted (omega (arith, followed .counts seven)))
+
+      blocks : f .tag ≡ 8 → Absent (f .tag) fields
+      blocks eight = rw eight (o .undivided (⊎-elim (λ three. inl (omega arith)) (λ seven. inr seven) (followed .blocks eight)))
 
   pub sizes-uncounted : f .tag ≡ 3 → valueOf 7 fields ≡ []
   sizes-uncounted three = value-absent 7 fields (o .uncounted (omega (arith, followed .low (omega arith))))
@@ -228,4 +261,7 @@ module _ (fields : List Field) (f : Field) (kind steps : ℕ) (o : Ordered field
         uncounted = λ l.
             let low : f .tag < 4 = omega (arith, last-more f fields) in
             absent-more f 7 fields (o .uncounted (omega (arith, followed .low low))) (λ same. omega arith);
+        undivided = λ l.
+            let early : lastTag fields < 4 = ⊎-elim (λ low. omega (arith, last-more f fields, followed .low (omega (arith, last-more f fields)))) (λ seven. omega (arith, followed .counts (omega (arith, last-more f fields)))) l in
+            absent-more f 8 fields (o .undivided (inl early)) (λ same. ⊎-elim (λ low. omega (arith, last-more f fields)) (λ seven. omega (arith, last-more f fields)) l);
       }

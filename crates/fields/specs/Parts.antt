@@ -1,5 +1,5 @@
--- The parts of a job, document 01, "Jobs", and document 02, requests 1 and 4, each found by its tag in the job's list of fields.
-use mathlib.Core.Bool.{Bool, cond, _||_}
+-- The parts of a job, document 01, "Jobs", and document 02, requests 1, 4 and 6, each found by its tag in the job's list of fields.
+use mathlib.Core.Bool.{Bool, false, cond, _||_}
 use mathlib.Core.List.{List, [], _∷_, map}
 use Prim.Native.Nat.{ℕ, _+_}
 use lib.Dec.{eqb}
@@ -34,6 +34,14 @@ countsFor (k ∷ given) n = k ∷ given
 
 unfoldable pub jobCounts : List Field → List ℕ
 jobCounts fields = countsFor (halfwords (valueOf 7 fields)) (length (jobSizes fields))
+
+-- the numbers of sizes of a job's blocks, and whether a field gives them: it may give none
+unfoldable pub blockNumbers : List Field → List ℕ
+blockNumbers fields = halfwords (valueOf 8 fields)
+
+unfoldable pub blocksThere : List Field → Bool
+blocksThere [] = false
+blocksThere (f ∷ fields) = eqb (f .tag) 8 || blocksThere fields
 
 -- a step: family, p and q, or the entries of a table
 pub data Step : Type 0 where

@@ -1,6 +1,6 @@
 -- What the record of a job that was read stands for: the parts of the job.
 use mathlib.Core.Path.{_≡_}
-use mathlib.Core.Bool.{true, cond}
+use mathlib.Core.Bool.{Bool, true, cond}
 use mathlib.Core.List.{List, [], _∷_, _++_, map}
 use mathlib.Core.Logic.{_⊎_}
 use Prim.Native.Nat.{ℕ, suc, _+_, _*_, _^_, _≤_, _<_}
@@ -8,7 +8,7 @@ use lib.Dec.{eqb}
 use lib.ListN.{length, getD, take, drop}
 use Rattle.tables.specs.Check.{mostEntries}
 use Rattle.fields.specs.Bytes.{headerBytes, word, words, fieldLength, fieldWithin}
-use Rattle.fields.specs.Parts.{Field, fieldOf, valueOf, Step, onFamily, onTable, Row, rowOf, isRow, jobKind, jobCapacity, jobSizes, jobSteps, jobRows, coefficientCount}
+use Rattle.fields.specs.Parts.{Field, fieldOf, valueOf, Step, onFamily, onTable, Row, rowOf, isRow, jobKind, jobCapacity, jobSizes, blocksThere, jobSteps, jobRows, coefficientCount}
 use Rattle.fields.specs.Grammar.{mostSizes, mostSteps, lengthRight}
 use Rattle.fields.specs.Reading.{firstField, refused, complete, jobFields, fieldsOf}
 use Rattle.fields.specs.declared.Span.{Span}
@@ -25,12 +25,12 @@ spanBytes job s = take (4 * s .n) (drop (s .at) job)
 abbrev pub SpanWithin : List ℕ → Span → Type 0
 SpanWithin job s = s .at + 4 * s .n ≤ length job
 
--- counts have two bytes each
-unfoldable pub countBytes : List ℕ → Span → List ℕ
-countBytes job s = take (2 * s .n) (drop (s .at) job)
+-- the same of numbers of two bytes, counts and blocks
+unfoldable pub halfwordBytes : List ℕ → Span → List ℕ
+halfwordBytes job s = take (2 * s .n) (drop (s .at) job)
 
-abbrev pub CountsWithin : List ℕ → Span → Type 0
-CountsWithin job s = s .at + 2 * s .n ≤ length job
+abbrev pub HalfwordsWithin : List ℕ → Span → Type 0
+HalfwordsWithin job s = s .at + 2 * s .n ≤ length job
 
 abbrev pub noSpan : Span
 noSpan = record { at = 0; n = 0 }
@@ -59,6 +59,12 @@ pub record StepsWithin (job : List ℕ) (steps : JobSteps) : Type 0 where
   pub most : steps .count ≤ mostSteps
   pub each : (i : ℕ) → i < steps .count → StepWithin job (getD (steps .items) i noStep)
 
+-- a span of block numbers, and whether there is a field of them
+pub record BlocksOf (job : List ℕ) (fields : List Field) (s : Span) (there : Bool) : Type 0 where
+  pub given : halfwordBytes job s ≡ valueOf 8 fields
+  pub within : HalfwordsWithin job s
+  pub there-is : there ≡ blocksThere fields
+
 -- the record has the parts of these fields of the job
 pub record PartsOf (job : List ℕ) (fields : List Field) (parts : JobParts) : Type 0 where
   pub kind-is : parts .kind ≡ jobKind fields
@@ -66,9 +72,10 @@ pub record PartsOf (job : List ℕ) (fields : List Field) (parts : JobParts) : T
   pub sizes-are : words (spanBytes job (parts .sizes)) ≡ jobSizes fields
   pub sizes-within : SpanWithin job (parts .sizes)
   pub sizes-most : parts .sizes .n ≤ mostSizes
-  pub counts-given : countBytes job (parts .counts) ≡ valueOf 7 fields
-  pub counts-within : CountsWithin job (parts .counts)
+  pub counts-given : halfwordBytes job (parts .counts) ≡ valueOf 7 fields
+  pub counts-within : HalfwordsWithin job (parts .counts)
   pub none-or-each : (parts .counts .n ≡ 0) ⊎ (parts .counts .n ≡ parts .sizes .n)
+  pub blocks-are : BlocksOf job fields (parts .blocks) (parts .divided)
   pub steps-are : stepsIn job (parts .steps) ≡ jobSteps fields
   pub steps-within : StepsWithin job (parts .steps)
   pub rows-count : parts .rows ≡ length (jobRows fields)
@@ -79,13 +86,13 @@ pub record NextField (job : List ℕ) (fields : List Field) (tag at : ℕ) (valu
   pub value-at : value ≡ take (length value) (drop at job)
   pub value-within : at + length value ≤ length job
   pub length-right : lengthRight (length (jobSizes fields)) tag (length value) ≡ true
-  pub known : tag ≤ 7
-  pub new : (tag < 4) ⊎ (tag ≡ 7) → valueOf tag (fields ++ (fieldOf tag value ∷ [])) ≡ value
+  pub known : tag ≤ 8
+  pub new : (tag < 4) ⊎ (7 ≤ tag) → valueOf tag (fields ++ (fieldOf tag value ∷ [])) ≡ value
   pub uncounted : tag ≡ 3 → valueOf 7 fields ≡ []
 
 -- what filling the record with a field asks: a tag with a right length, a place where it is a step, and counts that do not wrap
 pub record Fillable (parts : JobParts) (tag n : ℕ) : Type 0 where
-  pub known : (1 ≤ tag) × (tag ≤ 7)
+  pub known : (1 ≤ tag) × (tag ≤ 8)
   pub length-right : lengthRight (parts .sizes .n) tag n ≡ true
   pub places : length (parts .steps .items) ≡ mostSteps
   pub room : (tag ≡ 4) ⊎ (tag ≡ 5) → parts .steps .count < mostSteps

@@ -6,9 +6,9 @@ use crate::MOST_SIZES;
 use crate::MOST_STEPS;
 use crate::ROWS_KIND;
 ghost use mathlib.Core.Path.{_≡_};
-ghost use mathlib.Core.Bool.{_&&_};
+ghost use mathlib.Core.Bool.{_&&_, _||_};
 ghost use Prim.Native.Nat.{_*_, _≤_};
-ghost use lib.Dec.{leb};
+ghost use lib.Dec.{leb, eqb};
 ghost use Rattle.tables.specs.Check.{mostEntries};
 ghost use Rattle.fields.specs.Parts.{isStep};
 ghost use Rattle.fields.specs.Grammar.{
@@ -16,6 +16,7 @@ ghost use Rattle.fields.specs.Grammar.{
   stepFollows,
   rowFollows,
   countsFollow,
+  blocksFollow,
   mayFollow,
   mayEnd,
   lengthRight,
@@ -60,6 +61,30 @@ fn counts_follow(kind: u8, last: u8, tag: u8) -> bool
     last == 3 && tag == 7
 }
 
+// The sizes, or their counts.
+fn is_list(tag: u8) -> bool
+    ensures { λ r. ⌜ r ≡ (eqb tag 3 || eqb tag 7) ⌝ }
+{
+    tag == 3 || tag == 7
+}
+
+// The blocks of a floor job, right behind its sizes or their counts.
+fn blocks_follow(kind: u8, last: u8, tag: u8) -> bool
+    ensures { λ r. ⌜ r ≡ blocksFollow kind last tag ⌝ }
+{
+    if !is_list(last) {
+        return false;
+    }
+    kind == FLOOR_KIND && tag == 8
+}
+
+// Counts or blocks.
+fn list_follows(kind: u8, last: u8, tag: u8) -> bool
+    ensures { λ r. ⌜ r ≡ (countsFollow kind last tag || blocksFollow kind last tag) ⌝ }
+{
+    counts_follow(kind, last, tag) || blocks_follow(kind, last, tag)
+}
+
 // Whether a tag may follow the last one, 0 before the first field.
 fn may_follow(kind: u8, last: u8, steps: usize, tag: u8) -> bool
     ensures { λ r. ⌜ r ≡ mayFollow kind last steps tag ⌝ }
@@ -73,7 +98,7 @@ fn may_follow(kind: u8, last: u8, steps: usize, tag: u8) -> bool
     match last {
         1 => tag == 2,
         2 => tag == 3,
-        _ => counts_follow(kind, last, tag) || step_follows(steps, tag),
+        _ => list_follows(kind, last, tag) || step_follows(steps, tag),
     }
 }
 
@@ -103,6 +128,7 @@ fn length_right(sizes: usize, tag: u8, n: usize) -> bool
         4 => n == 9,
         6 => n % 4 == 0 && 4 <= n,
         7 => n == 2 * sizes,
+        8 => n % 2 == 0,
         _ => n % 4 == 0 && table_length_right(n),
     }
 }

@@ -8,14 +8,16 @@ pub mod words;
 ghost use mathlib.Core.Path.{_≡_};
 ghost use Prim.Native.Nat.{_+_, _≤_};
 ghost use lib.ListN.{length, take, drop};
-ghost use Rattle.fields.specs.Record.{spanBytes, SpanWithin, countBytes, CountsWithin, JobReading};
+ghost use Rattle.fields.specs.Record.{spanBytes, SpanWithin, halfwordBytes, HalfwordsWithin, JobReading};
 
-// The most bytes, sizes (in kind 3 coefficients of all rows), rows and steps of a job.
+// The most bytes, sizes (in kind 3 coefficients of all rows), rows, blocks and steps of a job.
 pub const MOST_BYTES: usize = 65_535;
 
 pub const MOST_SIZES: usize = 2_048;
 
 pub const MOST_ROWS: usize = 64;
+
+pub const MOST_BLOCKS: usize = 64;
 
 pub const MOST_STEPS: usize = 8;
 
@@ -34,8 +36,8 @@ pub struct Header {
     pub length: usize,
 }
 
-// A span of the job: where it starts, and how many numbers it has. Counts have two bytes each, all
-// others four.
+// A span of the job: where it starts, and how many numbers it has. Counts and blocks have two bytes
+// each, all others four.
 pub struct Span {
     pub at: usize,
     pub n: usize,
@@ -57,15 +59,17 @@ pub struct JobSteps {
 }
 
 // The parts of a job: of its rows how many there are, and how many coefficients they have in all. Where
-// it has no tag 7, there are no counts.
+// it has no tag 7, there are no counts; whether it has a tag 8 is told, since that may give no block.
 pub struct JobParts {
     pub capacity: u64,
     pub sizes: Span,
     pub counts: Span,
+    pub blocks: Span,
     pub steps: JobSteps,
     pub rows: usize,
     pub coefficients: usize,
     pub kind: u8,
+    pub divided: bool,
 }
 
 // A row of a job: its right side, which is its capacity, where its coefficients are, and the place behind it.
@@ -117,7 +121,8 @@ pub fn read_job(job: &[u8]) -> JobRead
     JobRead { number: 0, parts }
 }
 
-fn part_at(job: &[u8], at: usize, n: usize) -> &[u8]
+// n bytes from a place on.
+pub fn part_at(job: &[u8], at: usize, n: usize) -> &[u8]
     requires { ⌜ at + n ≤ length (now job) ⌝ }
     ensures { λ r. ⌜ now r ≡ take n (drop at (now (job .entry))) ⌝ }
 {
@@ -133,10 +138,10 @@ pub fn span_bytes(job: &[u8], span: Span) -> &[u8]
     part_at(job, span.at, 4 * span.n)
 }
 
-// The bytes of a span of counts.
-pub fn count_bytes(job: &[u8], span: Span) -> &[u8]
-    requires { ⌜ CountsWithin (now job) span ⌝ }
-    ensures { λ r. ⌜ now r ≡ countBytes (now (job .entry)) span ⌝ }
+// The bytes of a span of numbers of two bytes.
+pub fn halfword_bytes(job: &[u8], span: Span) -> &[u8]
+    requires { ⌜ HalfwordsWithin (now job) span ⌝ }
+    ensures { λ r. ⌜ now r ≡ halfwordBytes (now (job .entry)) span ⌝ }
 {
     part_at(job, span.at, 2 * span.n)
 }

@@ -22,6 +22,8 @@ pub(crate) fn no_parts() -> JobParts
         capacity: 0,
         sizes: nowhere,
         counts: nowhere,
+        blocks: nowhere,
+        divided: false,
         steps: JobSteps {
             items: [none; MOST_STEPS],
             count: 0,
@@ -78,7 +80,7 @@ pub(crate) fn with_field(parts: JobParts, tag: u8, at: usize, value: &[u8]) -> J
     let steps = parts.steps;
     let n = value.len() / 4;
     let span = Span { at, n };
-    let counts = Span {
+    let halves = Span {
         at,
         n: value.len() / 2,
     };
@@ -105,7 +107,12 @@ pub(crate) fn with_field(parts: JobParts, tag: u8, at: usize, value: &[u8]) -> J
             next
         }
         7 => {
-            next.counts = counts;
+            next.counts = halves;
+            next
+        }
+        8 => {
+            next.blocks = halves;
+            next.divided = true;
             next
         }
         _ => {

@@ -3,7 +3,7 @@ use mathlib.Core.Path.{_≡_, refl, ap, _∙_}
 use mathlib.Core.List.{List, [], _∷_, map, map-id, map-map}
 use Prim.Native.Nat.{ℕ, zero, suc, _+_, _*_, _≤_}
 use native.Mathlib.Omega.{arith}
-use lib.ListN.{replicate}
+use lib.ListN.{replicate, take, drop}
 use Rattle.functions.specs.Words.{limit, total, weighted, DualFeasible}
 use Rattle.functions.specs.Promise.{StepPromise}
 
@@ -27,6 +27,19 @@ weighted-none (n ∷ counts) = refl
 pub weighted-cons : (n : ℕ) (counts : List ℕ) (x : ℕ) (xs : List ℕ) → weighted (n ∷ counts) (x ∷ xs) ≡ n * x + weighted counts xs
 unfolding weighted
 weighted-cons n counts x xs = refl
+
+pub weighted-split : (m : ℕ) (counts xs : List ℕ) → weighted counts xs ≡ weighted (take m counts) (take m xs) + weighted (drop m counts) (drop m xs)
+unfolding weighted
+weighted-split zero counts xs = omega arith
+weighted-split (suc m) [] xs = refl
+weighted-split (suc m) (n ∷ counts) [] = omega (arith, weighted-none (drop m counts))
+weighted-split (suc m) (n ∷ counts) (x ∷ xs) = omega (arith, weighted-split m counts xs)
+
+pub total-first : (n : ℕ) (xs : List ℕ) → total (take n xs) ≤ total xs
+unfolding total
+total-first zero xs = omega arith
+total-first (suc n) [] = omega arith
+total-first (suc n) (x ∷ xs) = omega (arith, total-first n xs)
 
 pub total-plus : (f g : ℕ → ℕ) (xs : List ℕ) → total (map (λ x. f x + g x) xs) ≡ total (map f xs) + total (map g xs)
 unfolding total

@@ -1,9 +1,9 @@
 // Runs the job operation on the cases of standard input, a line each, in decimal, one space
-// between: i w l s b k and k runs. The image, working, list and scales buffers have i, w, l and s
-// places, and the job b bytes: those of the runs (count, byte) in turn, and 0 behind them; what does
-// not fit is ignored. Empty lines are skipped: they fill up a block of 65,536 bytes, as no case lies
-// in two. Writes a line for each answer: its eight numbers, then a checksum of the image, list and
-// scales buffers.
+// between: i w l s f b k and k runs. The image, working, list and scales buffers and that of the
+// blocks' floors have i, w, l, s and f places, and the job b bytes: those of the runs (count, byte) in
+// turn, and 0 behind them; what does not fit is ignored. Empty lines are skipped: they fill up a block
+// of 65,536 bytes, as no case lies in two. Writes a line for each answer: its nine numbers, then a
+// checksum of each buffer but the working one.
 use libc::STDIN_FILENO;
 use libc::STDOUT_FILENO;
 ghost use Prim.Native.Nat.{_≤_, _<_};
@@ -73,6 +73,7 @@ fn write_answer(answer: jobs::JobAnswer) {
     write_number(answer.step);
     write_number(answer.length);
     write_number(answer.row);
+    write_number(answer.total);
 }
 
 fn answer_job(
@@ -81,19 +82,28 @@ fn answer_job(
     working: &mut [u64],
     list: &mut [u32],
     scales: &mut [u32],
+    floors: &mut [u32],
 ) {
-    write_answer(jobs::windowfloor_job(job, images, working, list, scales));
+    write_answer(jobs::windowfloor_job(job, images, working, list, scales, floors));
     write_number(buffers::list_sum(images));
     write_number(buffers::list_sum(list));
     write_number(buffers::list_sum(scales));
+    write_number(buffers::list_sum(floors));
     io::write_all(STDOUT_FILENO, b"\n");
 }
 
-fn fill_buffers(images: &mut [u32], working: &mut [u64], list: &mut [u32], scales: &mut [u32]) {
+fn fill_buffers(
+    images: &mut [u32],
+    working: &mut [u64],
+    list: &mut [u32],
+    scales: &mut [u32],
+    floors: &mut [u32],
+) {
     buffers::fill(images, 800_000, 1);
     buffers::fill_working(working);
     buffers::fill(list, 900_000, 1);
     buffers::fill(scales, 700_000, 1);
+    buffers::fill(floors, 600_000, 1);
 }
 
 fn run_job(
@@ -104,12 +114,13 @@ fn run_job(
     working: &mut [u64],
     list: &mut [u32],
     scales: &mut [u32],
+    floors: &mut [u32],
 ) -> usize
     ensures { λ r. ⌜ at ≤ r ⌝ }
 {
     let end = make_job(text, at, job);
-    fill_buffers(images, working, list, scales);
-    answer_job(job, images, working, list, scales);
+    fill_buffers(images, working, list, scales, floors);
+    answer_job(job, images, working, list, scales, floors);
     end
 }
 
@@ -121,6 +132,7 @@ fn read_and_run(
     working: &mut [u64],
     list: &mut [u32],
     scales: &mut [u32],
+    floors: &mut [u32],
 ) -> usize
     ensures { λ r. ⌜ at ≤ r ⌝ }
 {
@@ -135,6 +147,7 @@ fn read_and_run(
         working,
         list,
         scales,
+        floors,
     )
 }
 
@@ -146,21 +159,25 @@ fn run_case(text: &[u8], at: usize) -> usize
     let w = decimal::number_at(text, i.next);
     let l = decimal::number_at(text, w.next);
     let s = decimal::number_at(text, l.next);
+    let f = decimal::number_at(text, s.next);
     let sizes = buffers::at_most(i.value, MOST_PLACES);
     let places = buffers::at_most(w.value, MOST_PLACES);
     let listed = buffers::at_most(l.value, MOST_PLACES);
     let scaled = buffers::at_most(s.value, MOST_PLACES);
+    let floored = buffers::at_most(f.value, MOST_PLACES);
     let mut images = [0u32; MOST_PLACES];
     let mut working = [0u64; MOST_PLACES];
     let mut list = [0u32; MOST_PLACES];
     let mut scales = [0u32; MOST_PLACES];
+    let mut floors = [0u32; MOST_PLACES];
     read_and_run(
         text,
-        s.next,
+        f.next,
         &mut images[..sizes],
         &mut working[..places],
         &mut list[..listed],
         &mut scales[..scaled],
+        &mut floors[..floored],
     )
 }
 

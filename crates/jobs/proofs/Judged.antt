@@ -1,6 +1,6 @@
 -- What the refusals of rows and of a whole job leave of one that is accepted.
 use mathlib.Core.Path.{_≡_, refl, ap, sym, _∙_}
-use mathlib.Core.Bool.{Bool, true, false, cond, not, _&&_, and-eq-true-iff}
+use mathlib.Core.Bool.{Bool, true, false, cond, not, _&&_, _||_, and-eq-true-iff}
 use mathlib.Core.List.{List, [], _∷_}
 use mathlib.Core.Logic.{⊎-elim}
 use Prim.Native.Nat.{ℕ, zero, suc, _+_, _-_, _≤_, _<_}
@@ -8,23 +8,25 @@ use native.Mathlib.Nat.{eq-zero-or-pos}
 use native.Mathlib.Numerals.{add-one}
 use native.Mathlib.Omega.{arith}
 use borrow.Author.Tests.{eq-eqb, ne-eqb, leb-true}
-use lib.Dec.{leb}
+use lib.Dec.{leb, eqb}
 use lib.ListN.{length, getD, drop, drop-of-length-le}
 use lib.Seq.{drop-cons}
 use Rattle.fields.specs.Bytes.{halfwords, words}
-use Rattle.fields.specs.Parts.{Field, valueOf, Step, Row, jobKind, jobCapacity, jobSizes, jobCounts, jobSteps, jobRows, coefficientCount}
-use Rattle.fields.specs.Grammar.{mostSizes, mostRows, rowsKind}
-use Rattle.fields.specs.Record.{spanBytes, countBytes, noSpan, noRow, rowIn}
+use Rattle.fields.specs.Parts.{Field, valueOf, Step, Row, jobKind, jobCapacity, jobSizes, jobCounts, blockNumbers, jobSteps, jobRows, coefficientCount}
+use Rattle.fields.specs.Grammar.{mostSizes, mostRows, floorKind, rowsKind}
+use Rattle.fields.specs.Record.{spanBytes, halfwordBytes, noSpan, PartsOf, noRow, rowIn}
+use Rattle.fields.specs.declared.JobParts.{JobParts}
 use Rattle.fields.specs.declared.RowPlace.{RowPlace}
 use Rattle.chains.specs.Chain.{TablesPass}
 use Rattle.chains.specs.Apply.{ChainAppliable}
 use Rattle.chains.specs.Judge.{Refusal, plain, judgeList, StepOvershoots, verdictOf, listBy, Judged}
 use Rattle.chains.specs.declared.Verdict.{Verdict}
-use Rattle.fields.proofs.Filling.{no-counts}
-use Rattle.chains.proofs.Judged.{tables-pass, given-judged, list-appliable, list-none, list-overshoots}
+use Rattle.fields.proofs.Filling.{no-counts, sizes-count}
+use Rattle.chains.proofs.Judged.{tables-pass, given-judged, list-appliable, list-divided, list-none, list-overshoots}
 use Rattle.jobs.specs.Kinds.{isKind, leastOf, rowsFit}
 use Rattle.jobs.specs.JudgeRows.{judgeRow, inRow, judgeRows}
-use Rattle.jobs.specs.Job.{judgeFields}
+use Rattle.blocks.specs.Block.{blocksFit}
+use Rattle.jobs.specs.Job.{isDivided, blocksRight, judgeFields}
 
 -- how many rows and coefficients 21 leaves
 pub fit-bounds : (rows coefficients : ℕ) → rowsFit rows coefficients ≡ true → (rows ≤ mostRows) × (coefficients ≤ mostSizes)
@@ -45,14 +47,14 @@ module _ (S : List Step) where
 
   pub row-appliable : (r : Row) → judgeRow S r .number ≡ 0 → ChainAppliable (r .right-side) S (r .coefficients)
   unfolding judgeRow
-  row-appliable r e = list-appliable 0 (r .right-side) (r .coefficients) [] S e
+  row-appliable r e = list-appliable 0 (r .right-side) (r .coefficients) [] true S e
 
   pub row-none : (r : Row) → judgeRow S r .number ≡ 0 → judgeRow S r ≡ plain 0
   unfolding judgeRow
-  row-none r e = list-none 0 (r .right-side) (r .coefficients) [] S e
+  row-none r e = list-none 0 (r .right-side) (r .coefficients) [] true S e
 
   -- a row judged as the list of its coefficients
-  pub row-judged : (job : List ℕ) (row : RowPlace) (k : ℕ) (list : List ℕ) (v : Verdict) (list′ : List ℕ) → Judged (judgeList 0 (row .capacity) (words (spanBytes job (row .coefficients))) (halfwords (countBytes job noSpan)) S) list v list′ → Judged (inRow (suc k) (judgeRow S (rowIn job row))) list (record { number = v .number; row = k + 1; step = v .step; length = v .length }) list′
+  pub row-judged : (job : List ℕ) (row : RowPlace) (k : ℕ) (list : List ℕ) (v : Verdict) (list′ : List ℕ) → Judged (judgeList 0 (row .capacity) (words (spanBytes job (row .coefficients))) (halfwords (halfwordBytes job noSpan)) true S) list v list′ → Judged (inRow (suc k) (judgeRow S (rowIn job row))) list (record { number = v .number; row = k + 1; step = v .step; length = v .length }) list′
   unfolding judgeRow rowIn inRow verdictOf listBy
   row-judged job row k list v list′ j =
       let uncounted = rw (no-counts job) at j in
@@ -81,7 +83,7 @@ module _ (S : List Step) where
   unfolding inRow judgeRow
   over-here k r rows eleven =
       let first : suc k - suc k ≡ 0 = omega arith in
-      (omega arith, rw first (list-overshoots 0 (r .right-side) (r .coefficients) [] S eleven))
+      (omega arith, rw first (list-overshoots 0 (r .right-side) (r .coefficients) [] true S eleven))
 
   pub rows-overshoot : (rows : List Row) (k : ℕ) → Over k rows (judgeRows k S rows)
   unfolding judgeRows plain
@@ -129,6 +131,12 @@ module _ (S : List Step) (rows : List Row) where
     unfolding judgeRows
     rows-done l = so .verdict ∙ ap (judgeRows k S) (drop-of-length-le rows {i = k} l)
 
+-- the blocks, by the parts of the job
+pub right-is : (job : List ℕ) (fields : List Field) (parts : JobParts) → PartsOf job fields parts → (right : Bool) → right ≡ not (eqb (parts .kind) floorKind && parts .divided) || blocksFit (halfwords (halfwordBytes job (parts .blocks))) (parts .sizes .n) → right ≡ blocksRight fields
+unfolding blocksRight isDivided blockNumbers
+right-is job fields parts h right e =
+    e ∙ rw (h .kind-is, h .blocks-are .there-is, h .blocks-are .given, sizes-count job fields parts h)
+
 -- a whole job: refused by 16 or 21, or by its list or its rows
 module _ (fields : List Field) where
   pub kind-refused : isKind (jobKind fields) ≡ false → judgeFields fields ≡ plain 16
@@ -149,14 +157,23 @@ module _ (fields : List Field) where
         go false fits none = absurd (omega (arith, none))
 
   module _ (kind : jobKind fields ≡ rowsKind → ⊥) where
-    pub list-kind : isKind (jobKind fields) ≡ true → judgeFields fields ≡ judgeList (leastOf (jobKind fields)) (jobCapacity fields) (jobSizes fields) (halfwords (valueOf 7 fields)) (jobSteps fields)
+    pub list-kind : isKind (jobKind fields) ≡ true → judgeFields fields ≡ judgeList (leastOf (jobKind fields)) (jobCapacity fields) (jobSizes fields) (halfwords (valueOf 7 fields)) (blocksRight fields) (jobSteps fields)
     unfolding judgeFields jobCounts
-    list-kind e = rw (e, ne-eqb (jobKind fields) rowsKind kind) (given-judged _ _ _ _ _ _)
+    list-kind e = rw (e, ne-eqb (jobKind fields) rowsKind kind) (given-judged _ _ _ _ _ _ _)
+
+    -- what its list was judged by
+    pub list-accepted : judgeFields fields .number ≡ 0 → judgeList (leastOf (jobKind fields)) (jobCapacity fields) (jobSizes fields) (halfwords (valueOf 7 fields)) (blocksRight fields) (jobSteps fields) .number ≡ 0
+    unfolding plain
+    list-accepted e = go (isKind (jobKind fields)) refl
+      where
+        go : (test : Bool) → isKind (jobKind fields) ≡ test → judgeList (leastOf (jobKind fields)) (jobCapacity fields) (jobSizes fields) (halfwords (valueOf 7 fields)) (blocksRight fields) (jobSteps fields) .number ≡ 0
+        go true is = sym (ap (λ (r : Refusal). r .number) (list-kind is)) ∙ e
+        go false is = absurd (omega (arith, ap (λ (r : Refusal). r .number) (kind-refused is), e))
 
     pub list-fine : judgeFields fields .number ≡ 0 → ChainAppliable (jobCapacity fields) (jobSteps fields) (jobSizes fields)
-    unfolding plain
-    list-fine e = go (isKind (jobKind fields)) refl
-      where
-        go : (test : Bool) → isKind (jobKind fields) ≡ test → ChainAppliable (jobCapacity fields) (jobSteps fields) (jobSizes fields)
-        go true is = list-appliable _ _ _ _ _ (sym (ap (λ (r : Refusal). r .number) (list-kind is)) ∙ e)
-        go false is = absurd (omega (arith, ap (λ (r : Refusal). r .number) (kind-refused is), e))
+    list-fine e = list-appliable _ _ _ _ _ _ (list-accepted e)
+
+    -- the blocks of a divided list fit it
+    pub blocks-fine : judgeFields fields .number ≡ 0 → isDivided fields ≡ true → blocksFit (blockNumbers fields) (length (jobSizes fields)) ≡ true
+    unfolding blocksRight
+    blocks-fine e is = rw is at (list-divided _ _ _ _ _ _ (list-accepted e))

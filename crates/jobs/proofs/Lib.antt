@@ -1,4 +1,6 @@
 pub mod Packings
+pub mod Separate
+pub mod Promise
 pub mod Outside
 pub mod Judged
 pub mod Writing

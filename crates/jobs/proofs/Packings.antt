@@ -1,10 +1,10 @@
--- P3: the floor of an accepted chain is at most the bins of every packing of the copies that fits, and its cut holds. The rows on packings, the
+-- The floor of an accepted chain is at most the bins of every packing of the copies that fits, and its cut holds. The rows on packings and blocks, the
 -- copies where each count is 1, and the floor of the empty list.
 use mathlib.Core.Path.{_≡_, refl, ap, sym, _∙_}
 use mathlib.Core.Bool.{Bool, true, false, cond, _||_, or-true, false≢true}
 use mathlib.Core.List.{List, [], _∷_, map, map-id}
 use mathlib.Core.Logic.{_⊎_, inl, inr}
-use Prim.Native.Nat.{ℕ, _+_, _≤_}
+use Prim.Native.Nat.{ℕ, zero, suc, _+_, _≤_}
 use native.Mathlib.Nat.{le-trans}
 use native.Mathlib.Omega.{arith}
 use borrow.Author.Tests.{eqb-true, eq-eqb}
@@ -20,12 +20,27 @@ use Rattle.functions.proofs.Quotient.{up-zero, up-least}
 use Rattle.functions.proofs.Summed.{total-most}
 use Rattle.fields.specs.Parts.{Step}
 use Rattle.chains.specs.Chain.{chainImage, chainScale, ChainAccepted, chainFloor}
-use Rattle.jobs.specs.Packing.{copies, load, Fits, member, distinct, binsUsed, ChainPromise}
+use Rattle.jobs.specs.Packing.{copies, load, Fits, member, distinct, binsUsed, blockOfEach, KeepsSeparate}
 use Rattle.jobs.specs.Rows.{PackingRows}
 use Rattle.chains.proofs.Chains.{chain-promise}
 
+-- a copy of each of two blocks: separate in two bins, and not in one
+two-bins : KeepsSeparate (0 ∷ 1 ∷ []) (4 ∷ 1 ∷ [])
+unfolding KeepsSeparate
+two-bins zero zero l m e = refl
+two-bins zero (suc zero) l m e = absurd (omega (arith, e))
+two-bins zero (suc (suc j)) l m e = absurd (omega (arith, m))
+two-bins (suc zero) zero l m e = absurd (omega (arith, e))
+two-bins (suc zero) (suc zero) l m e = refl
+two-bins (suc zero) (suc (suc j)) l m e = absurd (omega (arith, m))
+two-bins (suc (suc i)) j l m e = absurd (omega (arith, l))
+
+one-bin : KeepsSeparate (0 ∷ 1 ∷ []) (4 ∷ 4 ∷ []) → ⊥
+unfolding KeepsSeparate
+one-bin separate = omega (arith, separate 0 1 (omega arith) (omega arith) refl)
+
 pub packing-rows : PackingRows
-unfolding copies load member distinct binsUsed
+unfolding copies load member distinct binsUsed blockOfEach
 packing-rows =
     let all = weighted-cons 2 (0 ∷ 1 ∷ []) 7 (5 ∷ 3 ∷ []) in
     let two = weighted-cons 0 (1 ∷ []) 5 (3 ∷ []) in
@@ -37,6 +52,9 @@ packing-rows =
       bins-used = refl;
       no-bins-used = refl;
       copies-counted = refl;
+      blocks-of-copies = refl;
+      in-two-bins = two-bins;
+      in-one-bin = one-bin;
       weighted-total = omega (arith, all, two, one, weighted-none []);
     }
 
@@ -123,9 +141,9 @@ module _ (c : ℕ) (steps : List Step) (l : 1 ≤ c) (m : c ≤ limit) (a : Chai
   chain : StepPromise (chainImage c steps) c (chainScale c steps)
   chain = chain-promise steps c l m a
 
-  safe : (counts sizes bins : List ℕ) → Fits c (copies counts sizes) bins → chainFloor c steps counts sizes ≤ binsUsed bins
+  pub floor-safe : (counts sizes bins : List ℕ) → Fits c (copies counts sizes) bins → chainFloor c steps counts sizes ≤ binsUsed bins
   unfolding chainFloor binsUsed
-  safe counts sizes bins h =
+  floor-safe counts sizes bins h =
       let f = chainImage c steps in
       let all = copies counts sizes in
       let share : (b : ℕ) → load b (map f all) bins ≤ chainScale c steps = λ b. rw (load-of f b all bins) (feasible-images chain (select b all bins) (rw (load-is b all bins) at (h .within b))) in
@@ -135,11 +153,7 @@ module _ (c : ℕ) (steps : List Step) (l : 1 ≤ c) (m : c ≤ limit) (a : Chai
       (covered (distinct bins) (map f all) bins (h .one-each ∙ sym (length-map all f)) (distinct-covers bins))
       (total-most (λ b. load b (map f all) bins) (chainScale c steps) (distinct bins) (λ i l. share (getD (distinct bins) i 0)))))
 
-  holds : (row counts : List ℕ) → length counts ≡ length row → weighted counts row ≤ c → weighted counts (map (chainImage c steps) row) ≤ chainScale c steps
-  holds row counts e h =
+  pub cut-holds : (row counts : List ℕ) → length counts ≡ length row → weighted counts row ≤ c → weighted counts (map (chainImage c steps) row) ≤ chainScale c steps
+  cut-holds row counts e h =
       let plain : total (copies counts row) ≡ weighted counts row = simp map-id at (copies-total (λ x. x) counts row) in
       rw (← (copies-total (chainImage c steps) counts row)) (feasible-images chain (copies counts row) (omega (arith, plain, h)))
-
-  -- P3
-  pub chain-is-safe : ChainPromise c steps
-  chain-is-safe = record { floor-is-safe = safe; cut-holds = holds }

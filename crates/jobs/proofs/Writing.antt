@@ -42,7 +42,7 @@ unfolding rowsImages coefficientCount
 rows-count S [] = refl
 rows-count S (r ∷ rows) = length-append (rowImages S r) (rowsImages S rows) ∙ omega (arith, row-count S r, rows-count S rows)
 
--- the images of row i stand behind those of the rows before it, and its scale in its own place
+-- the images of row i stand behind those of the rows before it, and its scale, or the floor of block i, in its own place
 pub images-at : (S : List Step) (rows : List Row) (i : ℕ) (behind : List ℕ) → i < length rows → drop (coefficientCount (take i rows)) (rowsImages S rows ++ behind) ≡ rowImages S (getD rows i noRow) ++ (rowsImages S (drop (suc i) rows) ++ behind)
 unfolding rowsImages coefficientCount
 images-at S [] i behind l = absurd (omega arith)
@@ -53,10 +53,10 @@ images-at S (r ∷ rows) (suc i) behind l =
     ∙ drop-append-add (rowImages S r) (rowsImages S rows ++ behind) (coefficientCount (take i rows))
     ∙ images-at S rows i behind (omega arith)
 
-pub scale-at : (S : List Step) (rows : List Row) (i : ℕ) (behind : List ℕ) → i < length rows → getD (map (rowScale S) rows ++ behind) i 0 ≡ rowScale S (getD rows i noRow)
-scale-at S [] i behind l = absurd (omega arith)
-scale-at S (r ∷ rows) zero behind l = refl
-scale-at S (r ∷ rows) (suc i) behind l = scale-at S rows i behind (omega arith)
+pub value-at : {A : Type 0} (f : A → ℕ) (none : A) (xs : List A) (i : ℕ) (behind : List ℕ) → i < length xs → getD (map f xs ++ behind) i 0 ≡ f (getD xs i none)
+value-at f none [] i behind l = absurd (omega arith)
+value-at f none (x ∷ xs) zero behind l = refl
+value-at f none (x ∷ xs) (suc i) behind l = value-at f none xs i behind (omega arith)
 
 images-more : (S : List Step) (rows : List Row) (r : Row) → rowsImages S (rows ++ (r ∷ [])) ≡ rowsImages S rows ++ rowImages S r
 unfolding rowsImages

@@ -1,9 +1,9 @@
--- The definitions of copies, packings and counts at small inputs. `proofs/Packings.antt` proves these rows, by computation.
+-- The definitions of copies, packings, blocks and counts at small inputs. `proofs/Packings.antt` proves these rows, by computation.
 use mathlib.Core.Path.{_≡_}
 use mathlib.Core.List.{List, [], _∷_}
 use Prim.Native.Nat.{ℕ}
 use Rattle.functions.specs.Words.{weighted}
-use Rattle.jobs.specs.Packing.{copies, load, binsUsed}
+use Rattle.jobs.specs.Packing.{copies, load, binsUsed, blockOfEach, KeepsSeparate}
 
 abbrev sizes : List ℕ
 sizes = 7 ∷ 5 ∷ 3 ∷ []
@@ -19,4 +19,7 @@ pub record PackingRows : Type 0 where
   pub bins-used : binsUsed bins ≡ 2
   pub no-bins-used : binsUsed [] ≡ 0
   pub copies-counted : copies (2 ∷ 0 ∷ 1 ∷ []) sizes ≡ 7 ∷ 7 ∷ 3 ∷ []
+  pub blocks-of-copies : copies (2 ∷ 3 ∷ 1 ∷ []) (blockOfEach 0 (2 ∷ 1 ∷ [])) ≡ 0 ∷ 0 ∷ 0 ∷ 0 ∷ 0 ∷ 1 ∷ []
+  pub in-two-bins : KeepsSeparate (0 ∷ 1 ∷ []) (4 ∷ 1 ∷ [])
+  pub in-one-bin : KeepsSeparate (0 ∷ 1 ∷ []) (4 ∷ 4 ∷ []) → ⊥
   pub weighted-total : weighted (2 ∷ 0 ∷ 1 ∷ []) sizes ≡ 17

@@ -3,17 +3,23 @@ use crate::JobAnswer;
 use crate::LIST_PLACES;
 use crate::rows;
 ghost use mathlib.Core.Path.{_≡_};
+ghost use mathlib.Core.Bool.{not, _&&_, _||_};
 ghost use Prim.Native.Nat.{_≤_};
+ghost use lib.Dec.{eqb};
 ghost use lib.ListN.{length};
-ghost use Rattle.fields.specs.Parts.{jobKind};
-ghost use Rattle.fields.specs.Grammar.{mostSizes, mostRows, rowsKind};
-ghost use Rattle.fields.specs.Record.{PartsOf, Stand};
+ghost use Rattle.fields.specs.Bytes.{halfwords};
+ghost use Rattle.fields.specs.Grammar.{mostSizes, mostRows, mostBlocks, floorKind};
+ghost use Rattle.fields.specs.Record.{halfwordBytes, HalfwordsWithin, PartsOf, Stand};
+ghost use Rattle.blocks.specs.Block.{blocksFit};
 ghost use Rattle.jobs.specs.Job.{
   fieldsIn,
   judgeFields,
   jobImages,
   acceptedAnswer,
   bufferRefusal,
+  floorsWritten,
+  ListReady,
+  FloorReady,
   Finished,
   Answered,
 };
@@ -27,9 +33,10 @@ pub(crate) fn refuse_buffers(
     working: usize,
     list: usize,
     scales: usize,
+    blocks: usize,
 ) -> u64
     ensures { λ r. ⌜ r ≡ bufferRefusal bytes
-        (record { images = images; working = working; list = list; scales = scales }) ⌝ }
+        (record { images = images; working = working; list = list; scales = scales; blocks = blocks }) ⌝ }
 {
     if fields::MOST_BYTES < bytes {
         return 12;
@@ -44,6 +51,9 @@ pub(crate) fn refuse_buffers(
         return 7;
     }
     if scales < fields::MOST_ROWS {
+        return 7;
+    }
+    if blocks < fields::MOST_BLOCKS {
         return 7;
     }
     0
@@ -80,6 +90,7 @@ pub(crate) fn refused(verdict: chains::Verdict) -> JobAnswer
       step = verdict .step;
       length = verdict .length;
       row = verdict .row;
+      total = 0;
     } ⌝ }
 {
     JobAnswer {
@@ -91,10 +102,11 @@ pub(crate) fn refused(verdict: chains::Verdict) -> JobAnswer
         step: verdict.step,
         length: verdict.length,
         row: verdict.row,
+        total: 0,
     }
 }
 
-fn accepted(n: u64, floor: u64, sum: u64, scale: u64) -> JobAnswer
+fn accepted(n: u64, floor: u64, sum: u64, scale: u64, total: u64) -> JobAnswer
     ensures { λ r. ⌜ r ≡ record {
       number = 0;
       n = n;
@@ -104,6 +116,7 @@ fn accepted(n: u64, floor: u64, sum: u64, scale: u64) -> JobAnswer
       step = 0;
       length = 0;
       row = 0;
+      total = total;
     } ⌝ }
 {
     JobAnswer {
@@ -115,7 +128,26 @@ fn accepted(n: u64, floor: u64, sum: u64, scale: u64) -> JobAnswer
         step: 0,
         length: 0,
         row: 0,
+        total,
     }
+}
+
+// A floor job with a field of blocks.
+fn is_divided(kind: u8, there: bool) -> bool
+    ensures { λ r. ⌜ r ≡ (eqb kind floorKind && there) ⌝ }
+{
+    kind == fields::FLOOR_KIND && there
+}
+
+// Whether the blocks divide a list of so many sizes; true where it is not divided.
+fn blocks_right(job: &[u8], divided: bool, blocks: fields::Span, sizes: usize) -> bool
+    requires { ⌜ HalfwordsWithin (now job) blocks ⌝ }
+    ensures { λ r. ⌜ r ≡ (not divided || blocksFit (halfwords (halfwordBytes (now (job .entry)) blocks)) sizes) ⌝ }
+{
+    if !divided {
+        return true;
+    }
+    blocks::blocks_fit(fields::halfword_bytes(job, blocks), sizes)
 }
 
 // The job judged by its parts: its kind, and then its list or its rows.
@@ -139,12 +171,15 @@ fn judge_parts(
     }
     let least = least_of(kind);
     let capacity = parts.capacity;
+    let divided = is_divided(kind, parts.divided);
+    let right = blocks_right(job, divided, parts.blocks, parts.sizes.n);
     chains::judge::judge_list(
         job,
         steps,
         capacity,
         parts.sizes,
         parts.counts,
+        right,
         least,
         false,
         working,
@@ -152,39 +187,77 @@ fn judge_parts(
     )
 }
 
-// The images and the answer of an accepted list; `images` has as many places as the job has sizes.
-fn finish_list(job: &[u8], parts: fields::JobParts, images: &mut [u32]) -> JobAnswer
-    requires { ⌜ PartsOf (now job) (fieldsIn (now job)) parts × (judgeFields (fieldsIn (now job)) .number ≡ 0)
-        × (jobKind (fieldsIn (now job)) ≡ rowsKind → ⊥) × (length (now images) ≡ parts .sizes .n) ⌝ }
+// The answer of an accepted floor job, from the images and their scale; the floor of each block goes
+// into `floors`.
+fn floor_answer(
+    job: &[u8],
+    parts: fields::JobParts,
+    scale: u64,
+    images: &[u32],
+    floors: &mut [u32],
+) -> JobAnswer
+    requires { ⌜ FloorReady (now job) parts scale (now images) × (mostBlocks ≤ length (now floors)) ⌝ }
     ensures { λ r. ⌜ (r ≡ acceptedAnswer (fieldsIn (now (job .entry))))
-        × (now (images .exit) ≡ jobImages (fieldsIn (now (job .entry)))) ⌝ }
+        × (now (floors .exit) ≡ floorsWritten (fieldsIn (now (job .entry))) (now (floors .entry))) ⌝ }
+{
+    let n = images.len() as u64;
+    let counts = fields::halfword_bytes(job, parts.counts);
+    if parts.divided {
+        let numbers = fields::halfword_bytes(job, parts.blocks);
+        let sums = blocks::write_floors(counts, numbers, images, scale, floors);
+        let whole = functions::round_up(sums.sum, scale);
+        return accepted(n, whole, sums.sum, scale, sums.total);
+    }
+    let sum = chains::list::sum_of(counts, images);
+    let floor = functions::round_up(sum, scale);
+    accepted(n, floor, sum, scale, floor)
+}
+
+// The images and the answer of an accepted list; `images` has as many places as the job has sizes.
+fn finish_list(
+    job: &[u8],
+    parts: fields::JobParts,
+    images: &mut [u32],
+    floors: &mut [u32],
+) -> JobAnswer
+    requires { ⌜ ListReady (now job) parts × (length (now images) ≡ parts .sizes .n)
+        × (mostBlocks ≤ length (now floors)) ⌝ }
+    ensures { λ r. ⌜ (r ≡ acceptedAnswer (fieldsIn (now (job .entry))))
+        × (now (images .exit) ≡ jobImages (fieldsIn (now (job .entry))))
+        × (now (floors .exit) ≡ floorsWritten (fieldsIn (now (job .entry))) (now (floors .entry))) ⌝ }
 {
     let steps = parts.steps;
     let scale = chains::apply::map_list(job, steps, parts.capacity, parts.sizes, images);
-    let n = images.len() as u64;
     if parts.kind == fields::FLOOR_KIND {
-        let sum = chains::list::sum_of(fields::count_bytes(job, parts.counts), images);
-        return accepted(n, functions::round_up(sum, scale), sum, scale);
+        return floor_answer(job, parts, scale, images, floors);
     }
-    accepted(n, 0, 0, scale)
+    accepted(images.len() as u64, 0, 0, scale, 0)
 }
 
 // The images and the answer of an accepted job.
-fn finish(job: &[u8], parts: fields::JobParts, images: &mut [u32], scales: &mut [u32]) -> JobAnswer
+fn finish(
+    job: &[u8],
+    parts: fields::JobParts,
+    images: &mut [u32],
+    scales: &mut [u32],
+    blocks: &mut [u32],
+) -> JobAnswer
     requires { ⌜ PartsOf (now job) (fieldsIn (now job)) parts
         × Stand (now job) 0 (fieldsIn (now job)) (length (now job))
         × (judgeFields (fieldsIn (now job)) .number ≡ 0)
-        × (mostSizes ≤ length (now images)) × (mostRows ≤ length (now scales)) ⌝ }
-    ensures { λ r. ⌜ Finished (fieldsIn (now (job .entry))) (now (images .entry)) (now (scales .entry)) r
-        (now (images .exit)) (now (scales .exit)) ⌝ }
+        × (mostSizes ≤ length (now images)) × (mostRows ≤ length (now scales))
+        × (mostBlocks ≤ length (now blocks)) ⌝ }
+    ensures { λ r. ⌜ Finished (fieldsIn (now (job .entry)))
+        (now (images .entry)) (now (scales .entry)) (now (blocks .entry)) r
+        (now (images .exit)) (now (scales .exit)) (now (blocks .exit)) ⌝ }
 {
     if parts.kind == fields::ROWS_KIND {
         let steps = parts.steps;
         rows::write_rows(job, steps, parts.rows, images, scales);
-        return accepted(parts.coefficients as u64, 0, 0, 0);
+        return accepted(parts.coefficients as u64, 0, 0, 0, 0);
     }
     let n = parts.sizes.n;
-    finish_list(job, parts, &mut images[..n])
+    finish_list(job, parts, &mut images[..n], blocks)
 }
 
 // The job judged by its parts, and applied where nothing refuses it.
@@ -195,19 +268,20 @@ pub(crate) fn answer_parts(
     working: &mut [u64],
     list: &mut [u32],
     scales: &mut [u32],
+    blocks: &mut [u32],
 ) -> JobAnswer
     requires { ⌜ PartsOf (now job) (fieldsIn (now job)) parts
         × Stand (now job) 0 (fieldsIn (now job)) (length (now job))
         × (mostSizes ≤ length (now images)) × (mostRows ≤ length (now scales))
-        × CheckRoom (now working) (now list) ⌝ }
+        × (mostBlocks ≤ length (now blocks)) × CheckRoom (now working) (now list) ⌝ }
     ensures answered { λ r. ⌜ Answered (judgeFields (fieldsIn (now (job .entry)))) (fieldsIn (now (job .entry)))
-        (now (images .entry)) (now (list .entry)) (now (scales .entry)) r
-        (now (images .exit)) (now (list .exit)) (now (scales .exit)) ⌝ }
+        (now (images .entry)) (now (list .entry)) (now (scales .entry)) (now (blocks .entry)) r
+        (now (images .exit)) (now (list .exit)) (now (scales .exit)) (now (blocks .exit)) ⌝ }
     ensures working { λ _. ⌜ length (now (working .exit)) ≡ length (now (working .entry)) ⌝ }
 {
     let verdict = judge_parts(job, parts, working, list);
     if verdict.number != 0 {
         return refused(verdict);
     }
-    finish(job, parts, images, scales)
+    finish(job, parts, images, scales, blocks)
 }

@@ -47,6 +47,7 @@ fn judge_row(
         capacity,
         row.coefficients,
         uncounted,
+        true,
         0,
         checked,
         working,

@@ -10,29 +10,29 @@ use lib.ListN.{length, take, drop, length-append}
 use lib.Seq.{take-append-seam}
 use Rattle.tables.specs.Check.{mostEntries}
 use Rattle.fields.specs.Parts.{jobKind}
-use Rattle.fields.specs.Grammar.{mostSizes, mostRows, rowsKind}
+use Rattle.fields.specs.Grammar.{mostSizes, mostRows, mostBlocks, rowsKind}
 use Rattle.chains.specs.Judge.{listBy}
-use Rattle.jobs.specs.Job.{fieldsIn, Places, placesOf, answerBy, imagesBy, scalesBy, jobAnswer, acceptedAnswer, refusedAnswer, jobImages, jobCount, jobScales, imagesAfter, listAfterJob, scalesAfter}
+use Rattle.jobs.specs.Job.{fieldsIn, Places, placesOf, answerBy, imagesBy, scalesBy, jobAnswer, acceptedAnswer, refusedAnswer, jobImages, jobCount, jobScales, jobBlockFloors, floorsWritten, blocksBy, imagesAfter, listAfterJob, scalesAfter, blocksAfter}
 use Rattle.jobs.specs.declared.JobAnswer.{JobAnswer}
 use Rattle.jobs.proofs.Accepted.{accepted-kind, accepted-fields, JobAccepted}
 use Rattle.jobs.proofs.Finishing.{rows-bounds, images-count}
 use Rattle.report.specs.Text.{fieldsText, fourthByte, handedOver, handOverText}
-use Rattle.report.specs.Answer.{Lent, RowsHeld, Printable, refusalOf, answerText}
+use Rattle.report.specs.Answer.{Lent, RowsHeld, BlocksHeld, Printable, refusalOf, answerText}
 
 -- the first places of a list that is longer
 first-part : (a b : List ℕ) (n : ℕ) → n ≡ length a → (n ≤ length (a ++ b)) × (take n (a ++ b) ≡ a)
 first-part a b n e = (simp length-append (omega (arith, e)), rw (e, take-append-seam a b) refl)
 
-pub record Told (job : List ℕ) (answer : JobAnswer) (images list scales : List ℕ) : Type 0 where
-  pub printable : Printable job answer images list scales
+pub record Told (job : List ℕ) (answer : JobAnswer) (images list scales blocks : List ℕ) : Type 0 where
+  pub printable : Printable job answer images list scales blocks
   pub text-is : handOverText job ≡ answerText job answer images list
 
-module _ (job images₀ working₀ list₀ scales₀ : List ℕ) (lent : Lent images₀ working₀ list₀ scales₀) (answer : JobAnswer) (so : answer ≡ jobAnswer job (placesOf images₀ working₀ list₀ scales₀)) where
+module _ (job images₀ working₀ list₀ scales₀ blocks₀ : List ℕ) (lent : Lent images₀ working₀ list₀ scales₀ blocks₀) (answer : JobAnswer) (so : answer ≡ jobAnswer job (placesOf images₀ working₀ list₀ scales₀ blocks₀)) where
   abbrev least : Places
-  least = record { images = mostSizes; working = mostEntries; list = mostEntries - 1; scales = mostRows }
+  least = record { images = mostSizes; working = mostEntries; list = mostEntries - 1; scales = mostRows; blocks = mostBlocks }
 
-  places : placesOf images₀ working₀ list₀ scales₀ ≡ least
-  places = rw (lent .images-places, lent .working-places, lent .list-places, lent .scales-places)
+  places : placesOf images₀ working₀ list₀ scales₀ blocks₀ ≡ least
+  places = rw (lent .images-places, lent .working-places, lent .list-places, lent .scales-places, lent .blocks-places)
 
   is : answer ≡ jobAnswer job least
   is = so ∙ ap (jobAnswer job) places
@@ -45,8 +45,8 @@ module _ (job images₀ working₀ list₀ scales₀ : List ℕ) (lent : Lent im
   unfolding jobAnswer answerBy handedOver
   accepted-is none = is ∙ rw (eq-eqb (handedOver job .number) 0 none) refl
 
-  module _ (images list scales : List ℕ) (images-so : images ≡ imagesAfter job (placesOf images₀ working₀ list₀ scales₀) images₀) (list-so : list ≡ listAfterJob job (placesOf images₀ working₀ list₀ scales₀) list₀) (scales-so : scales ≡ scalesAfter job (placesOf images₀ working₀ list₀ scales₀) scales₀) (same-images : length images ≡ length images₀) (same-list : length list ≡ length list₀) where
-    refused-told : (handedOver job .number ≡ 0 → ⊥) → Told job answer images list scales
+  module _ (images list scales blocks : List ℕ) (images-so : images ≡ imagesAfter job (placesOf images₀ working₀ list₀ scales₀ blocks₀) images₀) (list-so : list ≡ listAfterJob job (placesOf images₀ working₀ list₀ scales₀ blocks₀) list₀) (scales-so : scales ≡ scalesAfter job (placesOf images₀ working₀ list₀ scales₀ blocks₀) scales₀) (blocks-so : blocks ≡ blocksAfter job (placesOf images₀ working₀ list₀ scales₀ blocks₀) blocks₀) (same-images : length images ≡ length images₀) (same-list : length list ≡ length list₀) (same-blocks : length blocks ≡ length blocks₀) where
+    refused-told : (handedOver job .number ≡ 0 → ⊥) → Told job answer images list scales blocks
     unfolding refusedAnswer listBy listAfterJob handOverText handedOver answerText refusalOf
     refused-told some =
         let same = refused-is some in
@@ -61,7 +61,9 @@ module _ (job images₀ working₀ list₀ scales₀ : List ℕ) (lent : Lent im
             list-there = rw held (parts .0);
             images-most = omega (arith, lent);
             list-most = omega (arith, lent);
+            blocks-most = omega (arith, lent);
             rows-held = λ zero. absurd (some (sym number ∙ zero));
+            blocks-held = λ zero. absurd (some (sym number ∙ zero));
           };
           text-is = rw (ne-eqb (handedOver job .number) 0 some, held, parts .1, same, ne-eqb (handedOver job .number) 0 some) refl;
         }
@@ -98,7 +100,17 @@ module _ (job images₀ working₀ list₀ scales₀ : List ℕ) (lent : Lent im
             scales-held = passed-scales ∙ rw many;
           }
 
-      accepted-told : Told job answer images list scales
+      held-blocks : BlocksHeld job blocks
+      unfolding blocksAfter blocksBy floorsWritten handedOver
+      held-blocks =
+          record {
+            is-complete = accepted .is-complete;
+            kind-is = fourth-is;
+            more-floors = drop (length (jobBlockFloors (fieldsIn job))) blocks₀;
+            floors-held = blocks-so ∙ ap (λ (p : Places). blocksAfter job p blocks₀) places ∙ rw (eq-eqb (handedOver job .number) 0 none) refl;
+          }
+
+      accepted-told : Told job answer images list scales blocks
       unfolding acceptedAnswer handOverText handedOver fieldsText answerText
       accepted-told =
           let same = accepted-is none in
@@ -113,10 +125,12 @@ module _ (job images₀ working₀ list₀ scales₀ : List ℕ) (lent : Lent im
               list-there = omega arith;
               images-most = omega (arith, lent);
               list-most = omega (arith, lent);
+              blocks-most = omega (arith, lent);
               rows-held = λ _ kind. held-rows kind;
+              blocks-held = λ _. held-blocks;
             };
             text-is = rw (passed, passed-images, parts .1, same, fourth-is) refl;
           }
 
-    pub told : Told job answer images list scales
+    pub told : Told job answer images list scales blocks
     told = ⊎-elim accepted-told (λ some. refused-told (λ none. omega arith)) (eq-zero-or-pos (handedOver job .number))

@@ -8,14 +8,14 @@ use native.Mathlib.Nat.{eq-zero-or-pos, pow-suc}
 use native.Mathlib.Omega.{arith}
 use lib.Dec.{eqb}
 use lib.ListN.{length, getD, take, length-append, length-take}
-use lib.Seq.{getD-append-add}
+use lib.Seq.{take-append-seam, getD-append-add}
 use Rattle.tables.specs.Check.{mostEntries}
 use Rattle.fields.specs.Parts.{Step, Row, coefficientCount}
-use Rattle.fields.specs.Grammar.{mostSizes, rowsKind}
+use Rattle.fields.specs.Grammar.{mostSizes, mostBlocks, rowsKind}
 use Rattle.jobs.specs.Job.{rowImages, rowScale, rowsImages}
 use Rattle.jobs.specs.declared.JobAnswer.{JobAnswer}
 use Rattle.jobs.proofs.Writing.{row-count}
-use Rattle.report.specs.Text.{mostDigits, decimal, valuesText, line, floorWord, sumWord, scaleWord, imagesWord, refusedWord, listWord, floorText, cutText, acceptedText, rowsText, rowValues, refusedText, mostText}
+use Rattle.report.specs.Text.{mostDigits, decimal, valuesText, line, floorWord, sumWord, scaleWord, imagesWord, blocksWord, refusedWord, listWord, floorText, cutText, acceptedText, blocksText, rowsText, rowValues, refusedText, mostText}
 use Rattle.report.specs.Answer.{refusalOf}
 use Rattle.report.proofs.Decimals.{lead, lead-none, lead-some, last-digit}
 
@@ -72,11 +72,19 @@ unfolding cutText
 cut-length scale images n most e l small =
     omega (arith, length-append (line scaleWord (scale ∷ [])) (line imagesWord (take n images)), number-length scaleWord scale e, list-length imagesWord images n most l small)
 
-pub accepted-length : (kind : ℕ) (answer : JobAnswer) (images : List ℕ) → answer .floor < 2 ^ 64 → answer .sum < 2 ^ 64 → answer .scale < 2 ^ 64 → length images ≤ mostSizes → ((i : ℕ) → getD images i 0 < 2 ^ 32) → length (acceptedText kind answer (take (answer .n) images)) ≤ mostText
+-- floors of 32 bits, with something behind them in a buffer of places for each block
+blocks-length : (divided : Bool) (floors more : List ℕ) → length (floors ++ more) ≤ mostBlocks → ((i : ℕ) → getD (floors ++ more) i 0 < 2 ^ 32) → length (blocksText divided floors) ≤ 711
+unfolding blocksText
+blocks-length true floors more l small = rw (take-append-seam floors more) at (list-length blocksWord (floors ++ more) (length floors) mostBlocks l small)
+blocks-length false floors more l small = omega arith
+
+pub accepted-length : (kind : ℕ) (answer : JobAnswer) (images : List ℕ) → answer .floor < 2 ^ 64 → answer .sum < 2 ^ 64 → answer .scale < 2 ^ 64 → length images ≤ mostSizes → ((i : ℕ) → getD images i 0 < 2 ^ 32) → (divided : Bool) (floors more : List ℕ) → length (floors ++ more) ≤ mostBlocks → ((i : ℕ) → getD (floors ++ more) i 0 < 2 ^ 32) → length (acceptedText kind answer (take (answer .n) images) ++ blocksText divided floors) ≤ mostText
 unfolding acceptedText
-accepted-length kind answer images f s e l small =
+accepted-length kind answer images f s e l small divided floors more few low =
     omega (
       arith,
+      length-append (acceptedText kind answer (take (answer .n) images)) (blocksText divided floors),
+      blocks-length divided floors more few low,
       length-append (floorText kind answer) (cutText (answer .scale) (take (answer .n) images)),
       floor-length kind answer f s,
       cut-length (answer .scale) images (answer .n) mostSizes e l small,

@@ -3,5 +3,6 @@ pub mod Decimals
 pub mod Values
 pub mod Texts
 pub mod RowTexts
+pub mod BlockTexts
 pub mod Answered
 pub mod Lengths

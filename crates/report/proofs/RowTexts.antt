@@ -9,7 +9,7 @@ use Rattle.fields.specs.Parts.{Step, Row, jobSteps, jobRows, coefficientCount}
 use Rattle.fields.specs.Grammar.{mostSizes}
 use Rattle.fields.specs.Record.{noRow}
 use Rattle.jobs.specs.Job.{fieldsIn, rowImages, rowScale, rowsImages}
-use Rattle.jobs.proofs.Writing.{row-count, rows-count, images-at, scale-at, counts-first, counts-next}
+use Rattle.jobs.proofs.Writing.{row-count, rows-count, images-at, value-at, counts-first, counts-next}
 use Rattle.report.specs.Answer.{RowsHeld}
 
 module _ (job images scales : List ℕ) (h : RowsHeld job images scales) (k place n : ℕ) (place-is : place ≡ coefficientCount (take k (jobRows (fieldsIn job)))) (l : k < length (jobRows (fieldsIn job))) (long : n ≡ length (getD (jobRows (fieldsIn job)) k noRow .coefficients)) where
@@ -32,7 +32,7 @@ module _ (job images scales : List ℕ) (h : RowsHeld job images scales) (k plac
   scale-there = omega (arith, ap length (h .scales-held), length-append (map (rowScale S) rows) (h .more-scales), length-map rows (rowScale S))
 
   pub scale-held : getD scales k 0 ≡ rowScale S (getD rows k noRow)
-  scale-held = ap (λ (s : List ℕ). getD s k 0) (h .scales-held) ∙ scale-at S rows k (h .more-scales) l
+  scale-held = ap (λ (s : List ℕ). getD s k 0) (h .scales-held) ∙ value-at (rowScale S) noRow rows k (h .more-scales) l
 
   pub images-held : take (place + n - place) (drop place images) ≡ rowImages S (getD rows k noRow)
   images-held =

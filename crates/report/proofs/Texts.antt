@@ -1,5 +1,6 @@
 -- The lines of a text, one after the other.
 use mathlib.Core.Path.{_≡_, ap, sym, _∙_}
+use mathlib.Core.Bool.{Bool, true, false}
 use mathlib.Core.List.{List, [], _∷_, _++_, append-assoc, append-nil}
 use Prim.Native.Nat.{ℕ, _+_, _^_, _≤_, _<_}
 use native.Mathlib.Numerals.{add-one}
@@ -10,9 +11,9 @@ use lib.Seq.{take-suc}
 use Rattle.fields.specs.Parts.{Step, Row, jobSteps, jobRows}
 use Rattle.fields.specs.Grammar.{rowsKind}
 use Rattle.fields.specs.Record.{noRow}
-use Rattle.jobs.specs.Job.{fieldsIn, rowImages, rowScale}
+use Rattle.jobs.specs.Job.{fieldsIn, isDivided, rowImages, rowScale, jobBlockFloors}
 use Rattle.jobs.specs.declared.JobAnswer.{JobAnswer}
-use Rattle.report.specs.Text.{decimal, valuesText, line, floorWord, sumWord, scaleWord, imagesWord, refusedWord, listWord, floorText, cutText, acceptedText, rowsText, rowValues, refusedText, fourthByte}
+use Rattle.report.specs.Text.{decimal, valuesText, line, floorWord, sumWord, scaleWord, imagesWord, blocksWord, refusedWord, listWord, floorText, cutText, acceptedText, blocksText, rowsText, rowValues, refusedText, fourthByte}
 use Rattle.report.specs.Put.{Put}
 use Rattle.report.specs.Answer.{Printable, refusalOf, answerText, TextPut}
 use Rattle.report.proofs.Lengths.{accepted-length, rows-length, refused-length}
@@ -34,6 +35,15 @@ cut-put scale images p q = put-then p q
 pub accepted-put : {old a new : List ℕ} {i end : ℕ} (kind : ℕ) (answer : JobAnswer) (images : List ℕ) → Put old 0 (floorText kind answer) a i → Put a i (cutText (answer .scale) images) new end → Put old 0 (acceptedText kind answer images) new end
 unfolding acceptedText
 accepted-put kind answer images p q = put-then p q
+
+-- the blocks of a list that is divided, and none
+pub blocks-none : (old : List ℕ) (at : ℕ) (divided : Bool) (floors : List ℕ) → at ≤ length old → divided ≡ false → Put old at (blocksText divided floors) old at
+unfolding blocksText
+blocks-none old at divided floors l none = rw none (put-none old at l)
+
+pub blocks-some : {old new : List ℕ} {at end : ℕ} (divided : Bool) (floors : List ℕ) → divided ≡ true → Put old at (line blocksWord floors) new end → Put old at (blocksText divided floors) new end
+unfolding blocksText
+blocks-some divided floors some p = rw some p
 
 -- the cuts of the first rows, and one more
 module _ (S : List Step) where
@@ -73,7 +83,7 @@ module _ (fourth : ℕ) (answer : JobAnswer) (list : List ℕ) where
   refused-two eleven p q = rw (eq-eqb (answer .number) 11 eleven) (put-then p q)
 
 -- the lines of an answer, by whether it refuses; numbers of 64 bits, and lists of numbers of 32 bits
-module _ {old new : List ℕ} {end : ℕ} (job : List ℕ) (answer : JobAnswer) (images list scales : List ℕ) (p : Printable job answer images list scales) where
+module _ {old new : List ℕ} {end : ℕ} (job : List ℕ) (answer : JobAnswer) (images list scales blocks : List ℕ) (p : Printable job answer images list scales blocks) where
   pub answer-refused : (answer .number ≡ 0 → ⊥) → answer .number < 2 ^ 64 → answer .row < 2 ^ 64 → answer .step < 2 ^ 64 → ((i : ℕ) → getD list i 0 < 2 ^ 32) → Put old 0 (refusedText (fourthByte job) (refusalOf answer list)) new end → TextPut old (answerText job answer images list) new end
   unfolding answerText
   answer-refused some n r s small put =
@@ -81,11 +91,15 @@ module _ {old new : List ℕ} {end : ℕ} (job : List ℕ) (answer : JobAnswer) 
       (record { put = put; short = refused-length (fourthByte job) answer list n r s (p .list-most) small })
 
   module _ (none : answer .number ≡ 0) where
-    pub answer-accepted : (fourthByte job ≡ rowsKind → ⊥) → answer .floor < 2 ^ 64 → answer .sum < 2 ^ 64 → answer .scale < 2 ^ 64 → ((i : ℕ) → getD images i 0 < 2 ^ 32) → Put old 0 (acceptedText (fourthByte job) answer (take (answer .n) images)) new end → TextPut old (answerText job answer images list) new end
+    pub answer-accepted : (fourthByte job ≡ rowsKind → ⊥) → answer .floor < 2 ^ 64 → answer .sum < 2 ^ 64 → answer .scale < 2 ^ 64 → ((i : ℕ) → getD images i 0 < 2 ^ 32) → ((i : ℕ) → getD blocks i 0 < 2 ^ 32) → {out : List ℕ} {next : ℕ} → Put old 0 (acceptedText (fourthByte job) answer (take (answer .n) images)) out next → Put out next (blocksText (isDivided (fieldsIn job)) (jobBlockFloors (fieldsIn job))) new end → TextPut old (answerText job answer images list) new end
     unfolding answerText
-    answer-accepted other f s e small put =
+    answer-accepted other f s e small low put then =
+        let held = p .blocks-held none in
         rw (eq-eqb (answer .number) 0 none, ne-eqb (fourthByte job) rowsKind other)
-        (record { put = put; short = accepted-length (fourthByte job) answer images f s e (p .images-most) small })
+        (record {
+          put = put-then put then;
+          short = accepted-length (fourthByte job) answer images f s e (p .images-most) small (isDivided (fieldsIn job)) (jobBlockFloors (fieldsIn job)) (held .more-floors) (rw (held .floors-held) at (p .blocks-most)) (rw (held .floors-held) at low);
+        })
 
     pub answer-rows : (kind : fourthByte job ≡ rowsKind) → ((i : ℕ) → getD images i 0 < 2 ^ 32) → ((i : ℕ) → getD scales i 0 < 2 ^ 32) → Put old 0 (rowsText (jobSteps (fieldsIn job)) (jobRows (fieldsIn job))) new end → TextPut old (answerText job answer images list) new end
     unfolding answerText

@@ -1,14 +1,14 @@
--- What the hand-over program prints for a job, document 01, "The hand-over program", and document 02, request 1, in ASCII.
-use mathlib.Core.Bool.{cond}
+-- What the hand-over program prints for a job, document 01, "The hand-over program", and document 02, requests 1 and 6, in ASCII.
+use mathlib.Core.Bool.{Bool, cond}
 use mathlib.Core.List.{List, [], _∷_, _++_}
 use Prim.Native.Nat.{ℕ, zero, suc, _+_, _-_, _/_, _%_}
 use lib.Dec.{ltb, eqb}
 use lib.ListN.{getD}
 use Rattle.tables.specs.Check.{mostEntries}
 use Rattle.fields.specs.Parts.{Field, Step, Row, jobKind, jobSteps, jobRows}
-use Rattle.fields.specs.Grammar.{mostSizes, mostRows, rowsKind}
+use Rattle.fields.specs.Grammar.{mostSizes, mostRows, mostBlocks, rowsKind}
 use Rattle.chains.specs.Judge.{Refusal}
-use Rattle.jobs.specs.Job.{fieldsIn, judgeJob, rowImages, rowScale, jobImages, acceptedAnswer}
+use Rattle.jobs.specs.Job.{fieldsIn, isDivided, judgeJob, rowImages, rowScale, jobImages, jobBlockFloors, acceptedAnswer}
 use Rattle.jobs.specs.declared.JobAnswer.{JobAnswer}
 
 -- the decimal digits of a number below 10 ^ k, without leading zeros
@@ -33,7 +33,7 @@ valuesText (v ∷ values) = (32 ∷ decimal v) ++ valuesText values
 unfoldable pub line : List ℕ → List ℕ → List ℕ
 line word values = word ++ (valuesText values ++ (10 ∷ []))
 
--- floor, sum, scale, images, refused, list
+-- floor, sum, scale, images, blocks, refused, list
 abbrev pub floorWord : List ℕ
 floorWord = 102 ∷ 108 ∷ 111 ∷ 111 ∷ 114 ∷ []
 
@@ -45,6 +45,9 @@ scaleWord = 115 ∷ 99 ∷ 97 ∷ 108 ∷ 101 ∷ []
 
 abbrev pub imagesWord : List ℕ
 imagesWord = 105 ∷ 109 ∷ 97 ∷ 103 ∷ 101 ∷ 115 ∷ []
+
+abbrev pub blocksWord : List ℕ
+blocksWord = 98 ∷ 108 ∷ 111 ∷ 99 ∷ 107 ∷ 115 ∷ []
 
 abbrev pub refusedWord : List ℕ
 refusedWord = 114 ∷ 101 ∷ 102 ∷ 117 ∷ 115 ∷ 101 ∷ 100 ∷ []
@@ -61,6 +64,10 @@ cutText scale images = line scaleWord (scale ∷ []) ++ line imagesWord images
 
 unfoldable pub acceptedText : ℕ → JobAnswer → List ℕ → List ℕ
 acceptedText kind answer images = floorText kind answer ++ cutText (answer .scale) images
+
+-- the floors of the blocks of a list that is divided
+unfoldable pub blocksText : Bool → List ℕ → List ℕ
+blocksText divided floors = cond divided (line blocksWord floors) []
 
 -- a cut for each row
 unfoldable pub rowsText : List Step → List Row → List ℕ
@@ -81,7 +88,7 @@ unfoldable pub fieldsText : List Field → List ℕ
 fieldsText fields =
     cond (eqb (jobKind fields) rowsKind)
     (rowsText (jobSteps fields) (jobRows fields))
-    (acceptedText (jobKind fields) (acceptedAnswer fields) (jobImages fields))
+    (acceptedText (jobKind fields) (acceptedAnswer fields) (jobImages fields) ++ blocksText (isDivided fields) (jobBlockFloors fields))
 
 -- no text has more bytes: 64 rows with 2,048 images of ten digits
 abbrev pub mostText : ℕ
@@ -93,7 +100,7 @@ fourthByte job = getD job 3 0
 
 -- what refuses a job, with lent buffers of the least lengths that 7 lets pass
 unfoldable pub handedOver : List ℕ → Refusal
-handedOver job = judgeJob job (record { images = mostSizes; working = mostEntries; list = mostEntries - 1; scales = mostRows })
+handedOver job = judgeJob job (record { images = mostSizes; working = mostEntries; list = mostEntries - 1; scales = mostRows; blocks = mostBlocks })
 
 -- all that is printed for a job
 unfoldable pub handOverText : List ℕ → List ℕ

@@ -16,13 +16,14 @@ fn answer_text(
     working: &mut [u64],
     list: &mut [u32],
     scales: &mut [u32],
+    blocks: &mut [u32],
     out: &mut [u8],
 ) -> usize
-    requires { ⌜ Lent (now images) (now working) (now list) (now scales) ⌝ }
+    requires { ⌜ Lent (now images) (now working) (now list) (now scales) (now blocks) ⌝ }
     ensures { λ r. ⌜ TextPut (now (out .entry)) (handOverText (now (job .entry))) (now (out .exit)) r ⌝ }
 {
-    let answer = jobs::windowfloor_job(job, images, working, list, scales);
-    lines::put_answer(out, job, answer, images, list, scales)
+    let answer = jobs::windowfloor_job(job, images, working, list, scales, blocks);
+    lines::put_answer(out, job, answer, images, list, scales, blocks)
 }
 
 // Puts the text for a job at the start of `out`, as far as it fits, and answers how many bytes.
@@ -36,5 +37,14 @@ pub fn hand_over(job: &[u8], out: &mut [u8]) -> usize
     let mut working = [0u64; tables::MOST_ENTRIES];
     let mut list = [0u32; jobs::LIST_PLACES];
     let mut scales = [0u32; fields::MOST_ROWS];
-    answer_text(job, &mut images, &mut working, &mut list, &mut scales, out)
+    let mut blocks = [0u32; fields::MOST_BLOCKS];
+    answer_text(
+        job,
+        &mut images,
+        &mut working,
+        &mut list,
+        &mut scales,
+        &mut blocks,
+        out,
+    )
 }

@@ -6,7 +6,7 @@ ghost use Prim.Native.Nat.{_≤_};
 ghost use lib.ListN.{length};
 ghost use Rattle.fields.specs.Parts.{jobSteps, jobRows};
 ghost use Rattle.fields.specs.Record.{Stand};
-ghost use Rattle.jobs.specs.Job.{fieldsIn};
+ghost use Rattle.jobs.specs.Job.{fieldsIn, isDivided, jobBlockFloors};
 ghost use Rattle.report.specs.Text.{
   valuesText,
   line,
@@ -14,13 +14,14 @@ ghost use Rattle.report.specs.Text.{
   floorText,
   cutText,
   acceptedText,
+  blocksText,
   rowsText,
   rowValues,
   refusedText,
   fourthByte,
 };
 ghost use Rattle.report.specs.Put.{Put};
-ghost use Rattle.report.specs.Answer.{RowsHeld, Printable, refusalOf, answerText, TextPut};
+ghost use Rattle.report.specs.Answer.{RowsHeld, BlocksHeld, Printable, refusalOf, answerText, TextPut};
 
 fn put_number_line(out: &mut [u8], at: usize, word: &[u8], n: u64) -> usize
     requires { ⌜ at ≤ length (now out) ⌝ }
@@ -68,6 +69,24 @@ fn put_accepted(out: &mut [u8], kind: u8, answer: jobs::JobAnswer, images: &[u32
     let scale = answer.scale;
     let next = put_floor(out, kind, answer);
     put_cut(out, next, scale, images)
+}
+
+// The floors of the blocks of a list that is divided. How many there are is read from the job's fields
+// again; only a floor job has blocks.
+fn put_blocks(out: &mut [u8], at: usize, job: &[u8], kind: u8, blocks: &[u32]) -> usize
+    requires { ⌜ (at ≤ length (now out)) × BlocksHeld (now job) (now blocks) × (kind ≡ fourthByte (now job)) ⌝ }
+    ensures { λ r. ⌜ Put (now (out .entry)) at (blocksText (isDivided (fieldsIn (now (job .entry))))
+        (jobBlockFloors (fieldsIn (now (job .entry))))) (now (out .exit)) r ⌝ }
+{
+    if kind != fields::FLOOR_KIND {
+        return at;
+    }
+    let read = fields::read_job(job);
+    if !read.parts.divided {
+        return at;
+    }
+    let n = read.parts.blocks.n;
+    put_list_line(out, at, b"blocks", &blocks[..n])
 }
 
 // The cuts of all rows: each one's images stand behind those of the row before.
@@ -149,8 +168,8 @@ fn fourth_byte(job: &[u8]) -> u8
     job[3]
 }
 
-// The lines of an answer: the kind is the job's fourth byte, and the images, the list and the scales
-// stand in the first places of the buffers.
+// The lines of an answer: the kind is the job's fourth byte, and the images, the list, the scales and
+// the blocks' floors stand in the first places of the buffers.
 pub(crate) fn put_answer(
     out: &mut [u8],
     job: &[u8],
@@ -158,8 +177,9 @@ pub(crate) fn put_answer(
     images: &[u32],
     list: &[u32],
     scales: &[u32],
+    blocks: &[u32],
 ) -> usize
-    requires { ⌜ Printable (now job) answer (now images) (now list) (now scales) ⌝ }
+    requires { ⌜ Printable (now job) answer (now images) (now list) (now scales) (now blocks) ⌝ }
     ensures { λ r.
         ⌜ TextPut (now (out .entry)) (answerText (now (job .entry)) answer (now (images .entry)) (now (list .entry)))
         (now (out .exit)) r ⌝ }
@@ -172,5 +192,6 @@ pub(crate) fn put_answer(
         return put_job_rows(out, job, images, scales);
     }
     let n = answer.n as usize;
-    put_accepted(out, fourth, answer, &images[..n])
+    let next = put_accepted(out, fourth, answer, &images[..n]);
+    put_blocks(out, next, job, fourth, blocks)
 }

@@ -30,7 +30,7 @@ use Rattle.chains.specs.Sizes.{sizesWithin, countsPositive}
 use Rattle.sweeps.specs.Sweep.{widest, countedRefusal, rangeRefusal, sweepRefusal, sweepFloor, passes, passing, largest, firstWith, refusedSweep, bestOf, sweepAnswer}
 use Rattle.sweeps.specs.Progress.{Sweepable, SweepSum, SumAt, SumBefore, Better, WithParameter}
 use Rattle.sweeps.specs.declared.SweepAnswer.{SweepAnswer}
-use Rattle.jobs.proofs.Packings.{chain-is-safe}
+use Rattle.jobs.proofs.Promise.{chain-is-safe}
 use Rattle.chains.proofs.SizeTests.{sizes-most}
 
 largest-append : (xs ys : List ℕ) → largest (xs ++ ys) ≡ max (largest xs) (largest ys)

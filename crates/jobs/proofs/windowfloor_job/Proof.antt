@@ -19,16 +19,16 @@ refused-requires c κs = search needs
 
 returns : tie.Need-returns
 returns c =
-    let a = c .before .before .before .before .before .before .before .before .before .args in
+    let a = c .before .before .before .before .before .before .before .before .before .before .args in
     let number = c .before .before .before .refuse-buffers .ensures in
     let some = c .before .before .if1 .taken in
-    refused-outside (a .job .now) (a .images .now) (a .working .now) (a .list .now) (a .scales .now) _ _ refl _ (buffers-refused _ _ _ number some) some (λ eleven. buffers-other _ _ (sym number ∙ eleven)) _ (c .before .plain .ensures) (c .refused .ensures)
+    refused-outside (a .job .now) (a .images .now) (a .working .now) (a .list .now) (a .scales .now) (a .blocks .now) _ _ refl _ (buffers-refused _ _ _ number some) some (λ eleven. buffers-other _ _ (sym number ∙ eleven)) _ (c .before .plain .ensures) (c .refused .ensures)
 
 -- where the buffers are long enough, the arguments
 abbrev start : tie.Else1 → tie.Start
-start c = c .before .before .before .before .before .before .before
+start c = c .before .before .before .before .before .before .before .before
 
-room : (c : tie.Else1) → bufferRefusal (length (start c .args .job .now)) (placesOf (start c .args .images .now) (start c .args .working .now) (start c .args .list .now) (start c .args .scales .now)) ≡ 0
+room : (c : tie.Else1) → bufferRefusal (length (start c .args .job .now)) (placesOf (start c .args .images .now) (start c .args .working .now) (start c .args .list .now) (start c .args .scales .now) (start c .args .blocks .now)) ≡ 0
 room c = sym (c .before .refuse-buffers .ensures) ∙ c .if1 .left
 
 read-job-requires : tie.Need-read-job-requires
@@ -46,16 +46,16 @@ returns-2 c =
     let a = start (job .before) .args in
     let some = c .before .before .if2 .taken in
     let reading = job .read-job .ensures in
-    refused-outside (a .job .now) (a .images .now) (a .working .now) (a .list .now) (a .scales .now) _ _ refl _ (reading-refused _ _ (room (job .before)) _ reading some) some (unread-other _ _ (reading .refused-as some)) _ (c .before .plain2 .ensures) (c .refused2 .ensures)
+    refused-outside (a .job .now) (a .images .now) (a .working .now) (a .list .now) (a .scales .now) (a .blocks .now) _ _ refl _ (reading-refused _ _ (room (job .before)) _ reading some) some (unread-other _ _ (reading .refused-as some)) _ (c .before .plain2 .ensures) (c .refused2 .ensures)
 
 answer-parts-requires : tie.Need-answer-parts-requires
 answer-parts-requires c κs =
-    let read = c .before .before .before .before .before .before .before in
+    let read = c .before .before .before .before .before .before .before .before in
     let a = start (read .before) .args in
-    let places = rooms _ (a .images .now) (a .working .now) (a .list .now) (a .scales .now) (room (read .before)) in
-    let none = c .before .before .before .before .before .if2 .left in
+    let places = rooms _ (a .images .now) (a .working .now) (a .list .now) (a .scales .now) (a .blocks .now) (room (read .before)) in
+    let none = c .before .before .before .before .before .before .if2 .left in
     let r = read .read-job .ensures in
-    (r .parts-are none, r .stand none, places .for-images, places .for-scales, places .for-check)
+    (r .parts-are none, r .stand none, places .for-images, places .for-scales, places .for-blocks, places .for-check)
 
 same-length : tie.Need-same-length
 same-length c = search needs
@@ -69,13 +69,16 @@ same-length-3 c = search needs
 same-length-4 : tie.Need-same-length-4
 same-length-4 c = search needs
 
+same-length-5 : tie.Need-same-length-5
+same-length-5 c = search needs
+
 returns-3 : tie.Need-returns-3
 returns-3 c =
-    let answered = c .before .before .before .before .before .before .before .before in
-    let read = answered .before .before .before .before .before .before .before .before in
+    let answered = c .before .before .before .before .before .before .before .before .before .before in
+    let read = answered .before .before .before .before .before .before .before .before .before in
     let a = start (read .before) .args in
-    let judged = reading-passed _ _ (room (read .before)) _ (read .read-job .ensures) (answered .before .before .before .before .before .before .if2 .left) in
-    judged-job (a .job .now) (a .images .now) (a .working .now) (a .list .now) (a .scales .now) _ _ (same-length-2 c) _ _ _ judged (answered .answer-parts .ensures .0)
+    let judged = reading-passed _ _ (room (read .before)) _ (read .read-job .ensures) (answered .before .before .before .before .before .before .before .if2 .left) in
+    judged-job (a .job .now) (a .images .now) (a .working .now) (a .list .now) (a .scales .now) (a .blocks .now) _ _ (same-length-2 c) _ _ _ _ judged (answered .answer-parts .ensures .0)
 
 pub windowfloor-job-spec : {M : Type 1} → statement M
 windowfloor-job-spec =
@@ -94,4 +97,5 @@ windowfloor-job-spec =
     same-length-2
     same-length-3
     same-length-4
+    same-length-5
     returns-3)

@@ -18,15 +18,18 @@ slice-aggregate-answer-text-3 c = search needs
 slice-aggregate-answer-text-4 : tie.Need-slice-aggregate-answer-text-4
 slice-aggregate-answer-text-4 c = search needs
 
+slice-aggregate-answer-text-5 : tie.Need-slice-aggregate-answer-text-5
+slice-aggregate-answer-text-5 c = search needs
+
 answer-text-requires : tie.Need-answer-text-requires
 answer-text-requires c κs = search needs
 
 same-length : tie.Need-same-length
-same-length c = put-length (c .before .before .before .before .before .before .answer-text .ensures .put)
+same-length c = put-length (c .before .before .before .before .before .before .before .answer-text .ensures .put)
 
 returns : tie.Need-returns
 returns c =
-    let text = c .before .before .before .before .before .before .answer-text .ensures in
+    let text = c .before .before .before .before .before .before .before .answer-text .ensures in
     (text .put .next-is ∙ omega arith, (put-whole (text .put), text .short))
 
 pub hand-over-spec : {M : Type 1} → statement M
@@ -37,6 +40,7 @@ hand-over-spec =
     slice-aggregate-answer-text-2
     slice-aggregate-answer-text-3
     slice-aggregate-answer-text-4
+    slice-aggregate-answer-text-5
     answer-text-requires
     same-length
     returns)

@@ -5,8 +5,8 @@ use borrow.Author.Tests.{not-true, not-false}
 use lib.ListN.{length}
 use Rattle.functions.specs.Words.{capacityFits}
 use Rattle.fields.specs.Bytes.{halfwords, words}
-use Rattle.fields.specs.Record.{spanBytes, countBytes}
-use Rattle.fields.proofs.Filling.{span-length, counts-length-is}
+use Rattle.fields.specs.Record.{spanBytes, halfwordBytes}
+use Rattle.fields.proofs.Filling.{span-length, halfwords-length-is}
 use Rattle.chains.specs.Sizes.{sizesWithin, countsPositive, listRefusal}
 use borrow.Author.Needs.{needs}
 use Rattle.chains.proofs.list.refuse_list.Statement.{statement}
@@ -38,14 +38,14 @@ returns-2 c = rw (capacity-is (c .before .before .before), within-is (c .before)
 passed-sizes : (c : tie.Else2) → sizesWithin (c .before .before .before .before .before .before .args .least) (c .before .before .before .before .before .before .args .capacity) (words (spanBytes (c .before .before .before .before .before .before .args .job .now) (c .before .before .before .before .before .before .args .sizes))) ≡ true
 passed-sizes c = within-is (c .before) ∙ not-false _ (c .if2 .left)
 
-count-bytes-requires : tie.Need-count-bytes-requires
-count-bytes-requires c κs = search needs
+halfword-bytes-requires : tie.Need-halfword-bytes-requires
+halfword-bytes-requires c κs = search needs
 
 counts-positive-requires : tie.Need-counts-positive-requires
-counts-positive-requires c κs = ap length (c .count-bytes .ensures) ∙ counts-length-is _ _ (c .before .before .before .before .before .before .before .pre .1)
+counts-positive-requires c κs = ap length (c .halfword-bytes .ensures) ∙ halfwords-length-is _ _ (c .before .before .before .before .before .before .before .pre .1)
 
-positive-is : (c : tie.After-counts-positive) → countsPositive (halfwords (countBytes (c .before .before .before .before .before .before .before .before .args .job .now) (c .before .before .before .before .before .before .before .before .args .counts))) ≡ c .counts-positive .result
-positive-is c = sym (c .counts-positive .ensures ∙ rw (c .before .count-bytes .ensures))
+positive-is : (c : tie.After-counts-positive) → countsPositive (halfwords (halfwordBytes (c .before .before .before .before .before .before .before .before .args .job .now) (c .before .before .before .before .before .before .before .before .args .counts))) ≡ c .counts-positive .result
+positive-is c = sym (c .counts-positive .ensures ∙ rw (c .before .halfword-bytes .ensures))
 
 returns-3 : tie.Need-returns-3
 unfolding listRefusal
@@ -53,7 +53,11 @@ returns-3 c = rw (capacity-is (c .before .before .before .before .before .before
 
 returns-4 : tie.Need-returns-4
 unfolding listRefusal
-returns-4 c = rw (capacity-is (c .before .before .before .before .before .before), passed-sizes (c .before .before .before), positive-is (c .before) ∙ not-false _ (c .if3 .left))
+returns-4 c = rw (capacity-is (c .before .before .before .before .before .before .before), passed-sizes (c .before .before .before .before), positive-is (c .before .before) ∙ not-false _ (c .before .if3 .left), not-true (c .before .before .before .before .before .before .before .before .before .before .args .divided) (c .if4 .taken))
+
+returns-5 : tie.Need-returns-5
+unfolding listRefusal
+returns-5 c = rw (capacity-is (c .before .before .before .before .before .before .before), passed-sizes (c .before .before .before .before), positive-is (c .before .before) ∙ not-false _ (c .before .if3 .left), not-false (c .before .before .before .before .before .before .before .before .before .before .args .divided) (c .if4 .left))
 
 pub refuse-list-spec : {M : Type 1} → statement M
 refuse-list-spec =
@@ -64,7 +68,8 @@ refuse-list-spec =
     span-bytes-requires
     sizes-within-requires
     returns-2
-    count-bytes-requires
+    halfword-bytes-requires
     counts-positive-requires
     returns-3
-    returns-4)
+    returns-4
+    returns-5)

@@ -2,9 +2,10 @@
 use mathlib.Core.Path.{_≡_, refl}
 use mathlib.Core.List.{map-id}
 use mathlib.Core.Logic.{inl, inr, ⊎-elim}
-use Prim.Native.Nat.{_-_}
+use Prim.Native.Nat.{ℕ, _-_}
 use native.Mathlib.Omega.{arith}
 use lib.ListN.{length}
+use Rattle.functions.specs.Words.{EachWithin}
 use Rattle.functions.specs.Summed.{Summed}
 use Rattle.functions.proofs.Summed.{summed-start, summed-next, summed-end}
 use Rattle.fields.specs.Bytes.{halfwords}
@@ -14,7 +15,7 @@ use Rattle.chains.proofs.list.sum_of.Statement.{statement}
 use Rattle.chains.proofs.list.sum_of.Tie as tie
 
 abbrev Inv-loop : tie.InvT-loop
-Inv-loop bytes list sum₀ i₀ sum i = Summed (λ x. x) 4294967296 (countsFor (halfwords bytes) (length list)) list sum i
+Inv-loop bytes list sum₀ i₀ sum i = Summed (λ x. x) 4294967296 (countsFor (halfwords bytes) (length list)) list sum i × ((most : ℕ) → EachWithin most list → Summed (λ x. x) most (countsFor (halfwords bytes) (length list)) list sum i)
 
 abbrev μ-loop : tie.MeasureT-loop
 μ-loop bytes list sum₀ i₀ sum i = length list - i
@@ -24,7 +25,7 @@ same-count : (c : tie.Start Inv-loop μ-loop) → length (countsFor (halfwords (
 same-count c = counts-length _ _ (c .pre .0)
 
 loop-holds : tie.Need-loop-holds Inv-loop μ-loop
-loop-holds c = summed-start _ _ _ _ (same-count (c .before .before))
+loop-holds c = (summed-start _ _ _ _ (same-count (c .before .before)), λ most within. summed-start _ _ _ _ (same-count (c .before .before)))
 
 count-at-requires : tie.Need-count-at-requires Inv-loop μ-loop
 count-at-requires c κs = ⊎-elim (λ none. inl none) (λ whole. inr (omega arith)) (c .before .before .before .before .pre .0)
@@ -43,13 +44,18 @@ loop-again c =
     let start = c .before .before .before .before .before .before in
     let turn = c .before .before in
     let counted = c .before .count-at .ensures in
-    summed-next _ _ _ _ (same-count start) _ _ (turn .before .loop .inv) _ _ (turn .loop-test .taken) (counted .1 _ (turn .loop-test .taken) (start .pre .0)) refl (counted .0) (omega (arith, c .shared-slice-known3 .given (turn .before .loop .i)))
+    let more = turn .loop-test .taken in
+    let count-is = counted .1 _ more (start .pre .0) in
+    let inv = turn .before .loop .inv in (
+      summed-next _ _ _ _ (same-count start) _ _ (inv .0) _ _ more count-is refl (counted .0) (omega (arith, c .shared-slice-known3 .given (turn .before .loop .i))),
+      λ most within. summed-next _ _ _ _ (same-count start) _ _ (inv .1 most within) _ _ more count-is refl (counted .0) (within _ more),
+    )
 
 mul-sum-2 : tie.Need-mul-sum-2 Inv-loop μ-loop
-mul-sum-2 c = omega (arith, loop-again c .sum-most)
+mul-sum-2 c = omega (arith, loop-again c .0 .sum-most)
 
 add-sum : tie.Need-add-sum Inv-loop μ-loop
-add-sum c = omega (arith, loop-again c .sum-most)
+add-sum c = omega (arith, loop-again c .0 .sum-most)
 
 add-i : tie.Need-add-i Inv-loop μ-loop
 add-i c = omega arith
@@ -60,8 +66,10 @@ loop-less c = omega arith
 returns : tie.Need-returns Inv-loop μ-loop
 returns c =
     let start = c .before .before .before .before in
-    let whole = summed-end _ _ _ _ (same-count start) _ _ (c .before .loop .inv) (c .loop-test .left) in
-    (rw map-id at whole, omega (arith, c .before .loop .inv))
+    let inv = c .before .loop .inv in
+    let whole = summed-end _ _ _ _ (same-count start) _ _ (inv .0) (c .loop-test .left) in
+    let all : c .before .loop .i ≡ length (start .args .list .now) = omega (arith, inv .0 .passed, c .loop-test .left) in
+    (rw map-id at whole, λ most within. rw all at (inv .1 most within .sum-most))
 
 pub sum-of-spec : {M : Type 1} → statement M
 sum-of-spec =

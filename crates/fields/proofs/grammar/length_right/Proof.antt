@@ -45,15 +45,19 @@ returns-8 c = rw (c .match .keys6)
 
 returns-9 : tie.Need-returns-9
 unfolding lengthRight
-returns-9 c =
-    let rest = c .before .before .match .rest in
-    rw (ne-eqb _ 1 (rest .0 .0 .0 .0 .0 .1), ne-eqb _ 2 (rest .0 .0 .0 .0 .1), ne-eqb _ 3 (rest .0 .0 .0 .1), ne-eqb _ 4 (rest .0 .0 .1), ne-eqb _ 6 (rest .0 .1), ne-eqb _ 7 (rest .1), eq-eqb _ 0 (c .before .if3 .taken)) (c .table-length-right .ensures)
+returns-9 c = rw (c .match .keys7)
 
 returns-10 : tie.Need-returns-10
 unfolding lengthRight
 returns-10 c =
+    let rest = c .before .before .match .rest in
+    rw (ne-eqb _ 1 (rest .0 .0 .0 .0 .0 .0 .1), ne-eqb _ 2 (rest .0 .0 .0 .0 .0 .1), ne-eqb _ 3 (rest .0 .0 .0 .0 .1), ne-eqb _ 4 (rest .0 .0 .0 .1), ne-eqb _ 6 (rest .0 .0 .1), ne-eqb _ 7 (rest .0 .1), ne-eqb _ 8 (rest .1), eq-eqb _ 0 (c .before .if3 .taken)) (c .table-length-right .ensures)
+
+returns-11 : tie.Need-returns-11
+unfolding lengthRight
+returns-11 c =
     let rest = c .before .match .rest in
-    rw (ne-eqb _ 1 (rest .0 .0 .0 .0 .0 .1), ne-eqb _ 2 (rest .0 .0 .0 .0 .1), ne-eqb _ 3 (rest .0 .0 .0 .1), ne-eqb _ 4 (rest .0 .0 .1), ne-eqb _ 6 (rest .0 .1), ne-eqb _ 7 (rest .1), ne-eqb _ 0 (c .if3 .left))
+    rw (ne-eqb _ 1 (rest .0 .0 .0 .0 .0 .0 .1), ne-eqb _ 2 (rest .0 .0 .0 .0 .0 .1), ne-eqb _ 3 (rest .0 .0 .0 .0 .1), ne-eqb _ 4 (rest .0 .0 .0 .1), ne-eqb _ 6 (rest .0 .0 .1), ne-eqb _ 7 (rest .0 .1), ne-eqb _ 8 (rest .1), ne-eqb _ 0 (c .if3 .left))
 
 pub length-right-spec : {M : Type 1} → statement M
 length-right-spec =
@@ -70,4 +74,5 @@ length-right-spec =
     returns-7
     returns-8
     returns-9
-    returns-10)
+    returns-10
+    returns-11)

@@ -24,8 +24,8 @@ returns-3 : tie.Need-returns-3
 unfolding mayFollow
 returns-3 c = rw (ne-eqb _ 0 (c .before .before .before .before .if1 .left), eq-eqb _ 3 (c .before .before .before .if2 .taken), sym (c .before .before .row-follows .ensures), c .before .if3 .left) (c .step-follows .ensures)
 
-counts-follow-requires : tie.Need-counts-follow-requires
-counts-follow-requires c κs = search needs
+list-follows-requires : tie.Need-list-follows-requires
+list-follows-requires c κs = search needs
 
 step-follows-requires-2 : tie.Need-step-follows-requires-2
 step-follows-requires-2 c κs = search needs
@@ -42,13 +42,13 @@ returns-6 : tie.Need-returns-6
 unfolding mayFollow
 returns-6 c =
     let rest = c .before .before .match .rest in
-    rw (ne-eqb _ 0 (c .before .before .before .before .if1 .left), ne-eqb _ 3 (c .before .before .before .if2 .left), ne-eqb _ 1 (rest .0 .1), ne-eqb _ 2 (rest .1), sym (c .before .counts-follow .ensures), c .if4 .taken)
+    rw (ne-eqb _ 0 (c .before .before .before .before .if1 .left), ne-eqb _ 3 (c .before .before .before .if2 .left), ne-eqb _ 1 (rest .0 .1), ne-eqb _ 2 (rest .1), sym (c .before .list-follows .ensures), c .if4 .taken)
 
 returns-7 : tie.Need-returns-7
 unfolding mayFollow
 returns-7 c =
     let rest = c .before .before .before .match .rest in
-    rw (ne-eqb _ 0 (c .before .before .before .before .before .if1 .left), ne-eqb _ 3 (c .before .before .before .before .if2 .left), ne-eqb _ 1 (rest .0 .1), ne-eqb _ 2 (rest .1), sym (c .before .before .counts-follow .ensures), c .before .if4 .left) (c .step-follows2 .ensures)
+    rw (ne-eqb _ 0 (c .before .before .before .before .before .if1 .left), ne-eqb _ 3 (c .before .before .before .before .if2 .left), ne-eqb _ 1 (rest .0 .1), ne-eqb _ 2 (rest .1), sym (c .before .before .list-follows .ensures), c .before .if4 .left) (c .step-follows2 .ensures)
 
 pub may-follow-spec : {M : Type 1} → statement M
 may-follow-spec =
@@ -59,7 +59,7 @@ may-follow-spec =
     step-follows-requires
     returns-2
     returns-3
-    counts-follow-requires
+    list-follows-requires
     step-follows-requires-2
     returns-4
     returns-5

@@ -3,8 +3,8 @@ use mathlib.Core.Path.{refl}
 use mathlib.Core.Logic.{inl}
 use native.Mathlib.Omega.{arith}
 use Rattle.fields.specs.Bytes.{halfword, word, words, numbersFrom}
-use Rattle.fields.specs.Parts.{valueOf, jobKind, jobCapacity, jobSizes, chosen, jobSteps, jobRows, coefficientCount}
-use Rattle.fields.specs.Record.{spanBytes, countBytes, stepsIn}
+use Rattle.fields.specs.Parts.{valueOf, blocksThere, jobKind, jobCapacity, jobSizes, chosen, jobSteps, jobRows, coefficientCount}
+use Rattle.fields.specs.Record.{spanBytes, halfwordBytes, stepsIn}
 use borrow.Author.Needs.{needs}
 use Rattle.fields.proofs.parts.no_parts.Statement.{statement}
 use Rattle.fields.proofs.parts.no_parts.Tie as tie
@@ -13,7 +13,7 @@ table-step-requires : tie.Need-table-step-requires
 table-step-requires c κs = search needs
 
 returns : tie.Need-returns
-unfolding valueOf jobKind jobCapacity jobSizes chosen jobSteps jobRows coefficientCount spanBytes stepsIn countBytes halfword word words numbersFrom
+unfolding valueOf blocksThere jobKind jobCapacity jobSizes chosen jobSteps jobRows coefficientCount spanBytes stepsIn halfwordBytes halfword word words numbersFrom
 returns c =
     λ job.
     record {
@@ -25,6 +25,7 @@ returns c =
       counts-given = refl;
       counts-within = omega arith;
       none-or-each = inl refl;
+      blocks-are = record { given = refl; within = omega arith; there-is = refl };
       steps-are = refl;
       steps-within = record { places = refl; most = omega arith; each = λ i l. absurd (omega arith) };
       rows-count = refl;

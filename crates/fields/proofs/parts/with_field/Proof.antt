@@ -1,8 +1,9 @@
 -- `with_field` meets its contract: in each arm the tag is known, and one part changes.
 use mathlib.Core.Path.{_≡_}
 use mathlib.Core.Logic.{inl, inr}
+use Prim.Native.Nat.{ℕ, _≤_, _<_}
 use native.Mathlib.Omega.{arith}
-use Rattle.fields.proofs.Filling.{kind-length, capacity-length, family-length, row-length, with-kind, with-capacity, with-sizes, with-counts, with-row, with-step, family-same, family-within, table-same, table-within}
+use Rattle.fields.proofs.Filling.{kind-length, capacity-length, family-length, row-length, with-kind, with-capacity, with-sizes, with-counts, with-blocks, with-row, with-step, family-same, family-within, table-same, table-within}
 use borrow.Author.Needs.{needs}
 use Rattle.fields.proofs.parts.with_field.Statement.{statement}
 use Rattle.fields.proofs.parts.with_field.Tie as tie
@@ -32,8 +33,17 @@ table-step-requires : tie.Need-table-step-requires
 table-step-requires c κs = search needs
 
 -- the tag that is left
+over-4 : (tag : ℕ) → 1 ≤ tag → (tag ≡ 1 → ⊥) × (tag ≡ 2 → ⊥) × (tag ≡ 3 → ⊥) × (tag ≡ 4 → ⊥) → 4 < tag
+over-4 tag some others = omega (arith, others)
+
+left-5 : (tag : ℕ) → 4 < tag → tag ≤ 8 → (tag ≡ 6 → ⊥) × (tag ≡ 7 → ⊥) × (tag ≡ 8 → ⊥) → tag ≡ 5
+left-5 tag over most others = omega (arith, others)
+
 table-tag : (c : tie.At-match-rest) → c .before .before .before .args .tag ≡ 5
-table-tag c = omega (arith, c .before .before .before .pre .known)
+table-tag c =
+    let rest = c .match .rest in
+    let known = c .before .before .before .pre .known in
+    left-5 _ (over-4 _ (known .0) (rest .0 .0 .0 .0 .0 .0 .1, rest .0 .0 .0 .0 .0 .1, rest .0 .0 .0 .0 .1, rest .0 .0 .0 .1)) (known .1) (rest .0 .0 .1, rest .0 .1, rest .1)
 
 with-step-requires-2 : tie.Need-with-step-requires-2
 with-step-requires-2 c κs = (c .before .before .before .before .pre .room (inr (table-tag (c .before))), c .before .before .before .before .pre .places)
@@ -61,7 +71,10 @@ returns-6 : tie.Need-returns-6
 returns-6 c = λ job fields h n. with-counts job fields _ h _ _ _ n (c .match .keys6)
 
 returns-7 : tie.Need-returns-7
-returns-7 c =
+returns-7 c = λ job fields h n. with-blocks job fields _ h _ _ _ n (c .match .keys7)
+
+returns-8 : tie.Need-returns-8
+returns-8 c =
     λ job fields h n.
     let five = table-tag (c .before .before) in
     rw (c .with-step2 .ensures, c .before .table-step .ensures)
@@ -86,4 +99,5 @@ with-field-spec =
     returns-4
     returns-5
     returns-6
-    returns-7)
+    returns-7
+    returns-8)

@@ -22,13 +22,13 @@ returns : tie.Need-returns
 returns c =
     let judged = c .before .before .before .before .before .before .before .judge-parts in
     let v = judged .ensures in
-    (answered-refused _ _ _ _ _ _ _ (v .list-is) (λ none. omega (arith, verdict-number _ _ (v .verdict-is), none, c .before .if1 .taken)) (refused-as _ _ _ (v .verdict-is) (c .refused .ensures)), same-length c)
+    (answered-refused _ _ _ _ _ _ _ _ (v .list-is) (λ none. omega (arith, verdict-number _ _ (v .verdict-is), none, c .before .if1 .taken)) (refused-as _ _ _ (v .verdict-is) (c .refused .ensures)), same-length c)
 
 finish-requires : tie.Need-finish-requires
 finish-requires c κs =
-    let judged = c .before .before .before .before .before .before .before .before in
-    let pre = judged .before .before .before .before .before .before .before .before .pre in
-    (pre .0, pre .1, sym (verdict-number _ _ (judged .judge-parts .ensures .verdict-is)) ∙ c .before .before .if1 .left, pre .2, pre .3)
+    let judged = c .before .before .before .before .before .before .before .before .before in
+    let pre = judged .before .before .before .before .before .before .before .before .before .pre in
+    (pre .0, pre .1, sym (verdict-number _ _ (judged .judge-parts .ensures .verdict-is)) ∙ c .before .before .before .if1 .left, pre .2, pre .3, pre .4)
 
 same-length-3 : tie.Need-same-length-3
 same-length-3 c = search needs
@@ -42,13 +42,16 @@ same-length-5 c = search needs
 same-length-6 : tie.Need-same-length-6
 same-length-6 c = search needs
 
+same-length-7 : tie.Need-same-length-7
+same-length-7 c = search needs
+
 returns-2 : tie.Need-returns-2
 returns-2 c =
-    let finished = c .before .before .before .before in
-    let judged = c .before .before .before .before .before .before .before .before .before .before .before .before .before in
+    let finished = c .before .before .before .before .before .before in
+    let judged = c .before .before .before .before .before .before .before .before .before .before .before .before .before .before .before .before in
     let v = judged .judge-parts .ensures in
-    let none = sym (verdict-number _ _ (v .verdict-is)) ∙ c .before .before .before .before .before .before .before .if1 .left in
-    (answered-accepted _ _ _ _ _ _ _ (v .list-is) none _ _ (finished .finish .ensures), same-length-4 c)
+    let none = sym (verdict-number _ _ (v .verdict-is)) ∙ c .before .before .before .before .before .before .before .before .before .before .if1 .left in
+    (answered-accepted _ _ _ _ _ _ _ _ (v .list-is) none _ _ _ (finished .finish .ensures), same-length-4 c)
 
 pub answer-parts-spec : {M : Type 1} → statement M
 answer-parts-spec =
@@ -64,4 +67,5 @@ answer-parts-spec =
     same-length-4
     same-length-5
     same-length-6
+    same-length-7
     returns-2)

@@ -11,7 +11,7 @@ use Rattle.jobs.proofs.answer.finish.Tie as tie
 
 write-rows-requires : tie.Need-write-rows-requires
 write-rows-requires c κs =
-    let s = c .before .before .before .before .before .before .before .before in
+    let s = c .before .before .before .before .before .before .before .before .before in
     let h = s .pre .0 in
     let many = sym (h .kind-is) ∙ c .before .before .before .if1 .taken in
     let bounds = rows-bounds _ (s .pre .2) many in
@@ -29,11 +29,11 @@ same-length-2 c = search needs
 returns : tie.Need-returns
 returns c =
     let wrote = c .before .before .before .before .before in
-    let s = c .before .before .before .before .before .before .before .before .before .before .before .before .before .before in
+    let s = c .before .before .before .before .before .before .before .before .before .before .before .before .before .before .before in
     let h = s .pre .0 in
     let many = sym (h .kind-is) ∙ c .before .before .before .before .before .before .before .before .before .if1 .taken in
     let written = rw (h .steps-are, h .rows-count) at (wrote .write-rows .ensures) in
-    rows-finished _ (s .pre .2) many _ _ _ _ _ _ (h .coefficients-count) (c .accepted .ensures) (written .0) (written .1)
+    rows-finished _ (s .pre .2) many _ _ _ _ _ _ _ (h .coefficients-count) (c .accepted .ensures) (written .0) (written .1)
 
 -- a place for each size
 places : (s : tie.Start) → length (take (s .args .parts .sizes .n) (s .args .images .now)) ≡ s .args .parts .sizes .n
@@ -43,20 +43,23 @@ slice-relend-prefix-finish-list : tie.Need-slice-relend-prefix-finish-list
 slice-relend-prefix-finish-list c = search needs
 
 slice-aggregate-finish-list : tie.Need-slice-aggregate-finish-list
-slice-aggregate-finish-list c = omega (arith, places (c .before .before .before .before .before .before))
+slice-aggregate-finish-list c = omega (arith, places (c .before .before .before .before .before .before .before))
 
 finish-list-requires : tie.Need-finish-list-requires
 finish-list-requires c κs =
-    let s = c .before .before .before .before .before .before in
-    (s .pre .0, s .pre .2, λ many. c .before .if1 .left (s .pre .0 .kind-is ∙ many), places s)
+    let s = c .before .before .before .before .before .before .before .before in
+    (record { parts-are = s .pre .0; accepted = s .pre .2; no-rows = λ many. c .before .before .if1 .left (s .pre .0 .kind-is ∙ many) }, places s, s .pre .5)
 
 same-length-3 : tie.Need-same-length-3
 same-length-3 c = search needs
 
+same-length-4 : tie.Need-same-length-4
+same-length-4 c = search needs
+
 returns-2 : tie.Need-returns-2
 returns-2 c =
-    let s = c .before .before .before .before .before .before .before .before .before in
-    list-finished _ (s .pre .2) (λ many. c .before .before .before .before .if1 .left (s .pre .0 .kind-is ∙ many)) _ _ _ _ _ (c .before .before .finish-list .ensures) (sizes-count _ _ _ (s .pre .0))
+    let s = c .before .before .before .before .before .before .before .before .before .before .before .before .before in
+    list-finished _ (s .pre .2) (λ many. c .before .before .before .before .before .before .before .if1 .left (s .pre .0 .kind-is ∙ many)) _ _ _ _ _ _ _ (c .before .before .before .before .finish-list .ensures) (sizes-count _ _ _ (s .pre .0))
 
 pub finish-spec : {M : Type 1} → statement M
 finish-spec =
@@ -71,4 +74,5 @@ finish-spec =
     slice-aggregate-finish-list
     finish-list-requires
     same-length-3
+    same-length-4
     returns-2)

@@ -4,7 +4,7 @@ use native.Mathlib.Omega.{arith}
 use borrow.Author.Tests.{lt-ltb, le-ltb}
 use Prim.Native.Nat.{_-_}
 use Rattle.tables.specs.Check.{mostEntries}
-use Rattle.fields.specs.Grammar.{mostBytes, mostSizes, mostRows}
+use Rattle.fields.specs.Grammar.{mostBytes, mostSizes, mostRows, mostBlocks}
 use Rattle.jobs.specs.Job.{bufferRefusal}
 use Rattle.jobs.proofs.answer.refuse_buffers.Statement.{statement}
 use Rattle.jobs.proofs.answer.refuse_buffers.Tie as tie
@@ -31,7 +31,11 @@ returns-5 c = rw (le-ltb mostBytes _ (c .before .before .before .before .if1 .le
 
 returns-6 : tie.Need-returns-6
 unfolding bufferRefusal
-returns-6 c = rw (le-ltb mostBytes _ (c .before .before .before .before .if1 .left), le-ltb _ mostSizes (c .before .before .before .if2 .left), le-ltb _ mostEntries (c .before .before .if3 .left), le-ltb _ (mostEntries - 1) (c .before .if4 .left), le-ltb _ mostRows (c .if5 .left))
+returns-6 c = rw (le-ltb mostBytes _ (c .before .before .before .before .before .if1 .left), lt-ltb (c .before .before .before .before .before .before .args .blocks) mostBlocks (omega (arith, c .if6 .taken)), or-true)
+
+returns-7 : tie.Need-returns-7
+unfolding bufferRefusal
+returns-7 c = rw (le-ltb mostBytes _ (c .before .before .before .before .before .if1 .left), le-ltb _ mostSizes (c .before .before .before .before .if2 .left), le-ltb _ mostEntries (c .before .before .before .if3 .left), le-ltb _ (mostEntries - 1) (c .before .before .if4 .left), le-ltb _ mostRows (c .before .if5 .left), le-ltb _ mostBlocks (c .if6 .left))
 
 pub refuse-buffers-spec : {M : Type 1} → statement M
-refuse-buffers-spec = tie.close (tie.spec returns returns-2 returns-3 returns-4 returns-5 returns-6)
+refuse-buffers-spec = tie.close (tie.spec returns returns-2 returns-3 returns-4 returns-5 returns-6 returns-7)

@@ -1,0 +1,2 @@
+pub mod Dividing
+pub mod Adding
