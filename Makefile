@@ -117,7 +117,12 @@ test: header target/compare target/compare-sanitized target/planner target/plann
 target/releases-answers: tests/releases/answers.c include/windowfloor.h $(LIBRARY)
 	$(CC) $(CFLAGS) $< $(LIBRARY) $(LDLIBS) -o $@
 
-releases: target/releases-answers target/bin/windowfloor
+# The same driver over the C reference.
+target/releases-reference: tests/releases/answers.c tests/c/reference.c tests/c/reference.h include/windowfloor.h
+	$(CC) $(CFLAGS) $(foreach name,image table_check job sweep,-Dwindowfloor_$(name)=reference_$(name)) \
+		tests/releases/answers.c tests/c/reference.c -o $@
+
+releases: target/releases-answers target/releases-reference target/bin/windowfloor
 	python3 -B tests/releases/test_compare.py
 	python3 -B tests/releases/compare.py
 

@@ -17,9 +17,9 @@
 #endif
 
 enum { LIBRARY, PLAIN, TUNED, CONTENDERS };
-enum { IMAGES = 65536, ROUNDS = 4, MOST_SAMPLES = 150, LEAST_SAMPLES = 4 }; /* samples of a round */
+enum { IMAGES = 65536, ROUNDS = 4, MOST_SAMPLES = 150, LEAST_SAMPLES = 3 }; /* samples of a round */
 
-static const double SECONDS_OF_A_ROW = 0.2, SECONDS_OF_A_SAMPLE = 20e-6; /* a row of a round */
+static const double SECONDS_OF_A_ROW = 0.15, SECONDS_OF_A_SAMPLE = 20e-6; /* a row of a round */
 
 static const struct contender {
     const char *name;
@@ -42,7 +42,7 @@ static uint8_t job[WINDOWFLOOR_MOST_JOB_BYTES];
 static size_t job_bytes;
 static uint32_t sizes[WINDOWFLOOR_MOST_SIZES];
 static uint16_t counts[WINDOWFLOOR_MOST_SIZES];
-static const uint64_t low = 1, high = 4096;
+static uint64_t low, high;
 
 static struct {
     uint64_t answer[9];
@@ -108,37 +108,38 @@ static uint32_t below(uint32_t n)
     return (uint32_t)((state >> 32) % n);
 }
 
-/* Parameters that are accepted, and a size. */
+/* Parameters that are accepted, and a size. Family 2 has no p above LIMIT / C. */
 static void draw_image(uint32_t *in)
 {
     do {
-        in[0] = 1 + below(family == 2 ? 1000 : (uint32_t)capacity / 2);
+        in[0] = 1 + below((uint32_t)(family == 2 ? LIMIT / capacity : capacity / 2));
         uint32_t r = (uint32_t)capacity % in[0];
         in[1] = family < 6 || r == 0 ? 0 : (in[0] - 1) / r + below(3);
         in[2] = below((uint32_t)capacity + 1);
     } while (windowfloor_image(capacity, family, in[0], in[1], in[2]).number != 0);
 }
 
-static void prepare_images(int of_family)
+static void prepare_images(uint32_t of_capacity, uint32_t of_family)
 {
-    capacity = 1000000;
+    capacity = of_capacity;
     family = (uint8_t)of_family;
     for (size_t i = 0; i < IMAGES; i++)
         draw_image(image_inputs[i]);
 }
 
-/* Entries that never pass their size: every list that fits has images that fit. */
-static void draw_table(void)
+/* Entries that never pass their size's share of the scale: every list that fits has images that fit. */
+static void draw_table(uint32_t scale)
 {
+    uint32_t share = scale / ((uint32_t)entries - 1);
     for (uint32_t x = 0; x < entries; x++)
-        table[x] = x - below(x / 8 + 1);
-    table[entries - 1] = (uint32_t)entries - 1;
+        table[x] = share * x - below(share * x / 8 + 1);
+    table[entries - 1] = scale;
 }
 
-static void prepare_table(int of_capacity)
+static void prepare_table(uint32_t of_capacity, uint32_t scale)
 {
     entries = (size_t)of_capacity + 1;
-    draw_table();
+    draw_table(scale);
 }
 
 static void put(uint64_t number, int bytes)
@@ -207,15 +208,23 @@ static void put_rows(size_t rows, size_t n, uint32_t right_side, uint32_t distan
     }
 }
 
-static void put_families(int steps)
+/* The steps of a job from a capacity of 1,000,000 on: family, p, q. */
+static const uint32_t chain[][3] = {{5, 700, 0}, {2, 3, 0},  {3, 1000, 0}, {4, 300, 0},
+                                    {1, 100, 0}, {6, 7, 10}, {7, 13, 10},  {2, 50, 0}};
+
+/* From the limit on. Each capacity is near it but that of the last step: near it family 2 has p = 1 alone. */
+static const uint32_t chain_at_limit[][3] = {{1, 100000000, 0}, {3, 2, 0},     {4, 2000000001, 0},
+                                             {5, 999, 0},       {6, 249, 124}, {7, 60, 5},
+                                             {3, 4000, 0},      {2, 2000, 0}};
+
+static void put_families(uint32_t of_capacity, uint32_t steps)
 {
-    static const uint32_t chain[][3] = {{5, 700, 0}, {2, 3, 0},  {3, 1000, 0}, {4, 300, 0},
-                                        {1, 100, 0}, {6, 7, 10}, {7, 13, 10},  {2, 50, 0}};
-    for (int i = 0; i < steps; i++) {
+    const uint32_t(*step)[3] = of_capacity == WINDOWFLOOR_LIMIT ? chain_at_limit : chain;
+    for (uint32_t i = 0; i < steps; i++) {
         put_header(WINDOWFLOOR_TAG_FAMILY, 9);
-        put(chain[i][0], 1);
-        put(chain[i][1], 4);
-        put(chain[i][2], 4);
+        put(step[i][0], 1);
+        put(step[i][1], 4);
+        put(step[i][2], 4);
     }
 }
 
@@ -226,88 +235,97 @@ static void put_table(void)
         put(table[x], 4);
 }
 
-static void put_tables(int tables)
+/* Tables whose scale is their capacity. */
+static void put_tables(uint32_t of_capacity, uint32_t tables)
 {
-    entries = WINDOWFLOOR_MOST_ENTRIES;
     while (tables-- > 0) {
-        draw_table();
+        prepare_table(of_capacity, of_capacity);
         put_table();
     }
 }
 
-static void prepare_family_job(int steps)
+static void prepare_family_job(uint32_t of_capacity, uint32_t steps)
 {
-    put_list(1000000, WINDOWFLOOR_MOST_SIZES);
-    put_families(steps);
+    put_list(of_capacity, WINDOWFLOOR_MOST_SIZES);
+    put_families(of_capacity, steps);
 }
 
-static void prepare_counted_job(int steps)
+static void prepare_counted_job(uint32_t of_capacity, uint32_t steps)
 {
-    put_list(1000000, WINDOWFLOOR_MOST_SIZES);
+    put_list(of_capacity, WINDOWFLOOR_MOST_SIZES);
     put_counts(WINDOWFLOOR_MOST_SIZES);
-    put_families(steps);
+    put_families(of_capacity, steps);
 }
 
-static void prepare_blocked_job(int steps)
+static void prepare_blocked_job(uint32_t of_capacity, uint32_t steps)
 {
-    put_list(1000000, WINDOWFLOOR_MOST_SIZES);
+    put_list(of_capacity, WINDOWFLOOR_MOST_SIZES);
     put_blocks(WINDOWFLOOR_MOST_BLOCKS, WINDOWFLOOR_MOST_SIZES);
-    put_families(steps);
+    put_families(of_capacity, steps);
 }
 
-static void prepare_counted_blocked_job(int steps)
+static void prepare_counted_blocked_job(uint32_t of_capacity, uint32_t steps)
 {
-    put_list(1000000, WINDOWFLOOR_MOST_SIZES);
+    put_list(of_capacity, WINDOWFLOOR_MOST_SIZES);
     put_counts(WINDOWFLOOR_MOST_SIZES);
     put_blocks(WINDOWFLOOR_MOST_BLOCKS, WINDOWFLOOR_MOST_SIZES);
-    put_families(steps);
+    put_families(of_capacity, steps);
 }
 
-/* 2,039 sizes: with them the job has 65,535 bytes. */
-static void prepare_table_job(int tables)
+/* 2,039 sizes: with them and seven tables of 2,048 entries the job has 65,535 bytes. */
+static void prepare_table_job(uint32_t of_capacity, uint32_t tables)
 {
-    put_list(2047, 2039);
-    put_tables(tables);
+    put_list(of_capacity, 2039);
+    put_tables(of_capacity, tables);
 }
 
 /* The last table has an entry too few for the capacity that it gets. */
-static void prepare_short_table(int tables)
+static void prepare_short_table(uint32_t of_capacity, uint32_t tables)
 {
-    prepare_table_job(tables - 1);
-    entries = WINDOWFLOOR_MOST_ENTRIES - 1;
-    draw_table();
-    put_table();
+    prepare_table_job(of_capacity, tables - 1);
+    put_tables(of_capacity - 1, 1);
 }
 
 /* Right sides with the same remainder by 700: the first step, of family 5, leaves them enough for the
  * others. */
-static void prepare_family_rows(int of_rows)
+static void prepare_family_rows(uint32_t right_side, uint32_t of_rows)
 {
-    put_rows((size_t)of_rows, WINDOWFLOOR_MOST_SIZES, 1000000, 700);
-    put_families(8);
+    put_rows(of_rows, WINDOWFLOOR_MOST_SIZES, right_side, 700);
+    put_families(right_side, 8);
 }
 
 /* 1,920 coefficients: 64 rows of 30 leave room for seven tables. */
-static void prepare_table_rows(int of_rows)
+static void prepare_table_rows(uint32_t right_side, uint32_t of_rows)
 {
-    put_rows((size_t)of_rows, 1920, 2047, 0);
-    put_tables(7);
+    put_rows(of_rows, 1920, right_side, 0);
+    put_tables(right_side, 7);
 }
 
-/* At this capacity each family has 4,096 legal p from 1 (family 4: from 2) on. Each size counts once. */
-static void prepare_sweep(int of_family)
+static uint64_t least_accepted_p(void)
 {
-    capacity = 100003;
+    uint64_t p = 1;
+    while (windowfloor_image(capacity, family, p, 0, 0).number != 0)
+        p++;
+    return p;
+}
+
+/* From the least p on that is accepted; at the capacities of the rows 4,096 are, without a gap. Each size
+ * counts once. */
+static void prepare_sweep(uint32_t of_capacity, uint32_t of_family)
+{
+    capacity = of_capacity;
     family = (uint8_t)of_family;
+    low = least_accepted_p();
+    high = low + WINDOWFLOOR_MOST_SPAN;
     for (size_t i = 0; i < WINDOWFLOOR_MOST_SIZES; i++) {
-        sizes[i] = 1 + below((uint32_t)capacity);
+        sizes[i] = 1 + below(of_capacity);
         counts[i] = 1;
     }
 }
 
-static void prepare_counted_sweep(int of_family)
+static void prepare_counted_sweep(uint32_t of_capacity, uint32_t of_family)
 {
-    prepare_sweep(of_family);
+    prepare_sweep(of_capacity, of_family);
     for (size_t i = 0; i < WINDOWFLOOR_MOST_SIZES; i++)
         counts[i] = (uint16_t)draw_count();
 }
@@ -316,8 +334,8 @@ static void prepare_counted_sweep(int of_family)
 
 struct row {
     const char *name;
-    void (*prepare)(int with);
-    int with;
+    void (*prepare)(uint32_t of_capacity, uint32_t with);
+    uint32_t of_capacity, with;
     void (*run)(const struct contender *who);
     const char *unit;
     double per_second; /* units */
@@ -327,58 +345,75 @@ struct row {
     uint64_t number;   /* that refuses it, or 0 */
 };
 
-#define IMAGE_ROW(with, name) {"image, " name, prepare_images, with, run_images, "ns", 1e9, IMAGES, 0, 0, 0}
-#define TABLE_ROW(with, c) \
-    {"table check, C = " c, prepare_table, with, run_table_check, "µs", 1e6, 1, 0, 0, 0}
-#define JOB_ROW(prepare, with, what, at_most) \
-    {"job, " what, prepare, with, run_one_job, "µs", 1e6, 1, at_most, 1, 0}
+#define IMAGE_ROW(c, with, name) \
+    {"image, " name, prepare_images, c, with, run_images, "ns", 1e9, IMAGES, 0, 0, 0}
+#define IMAGE_ROWS(c, where)                                     \
+    IMAGE_ROW(c, 1, "family 1 (threshold)" where),               \
+    IMAGE_ROW(c, 2, "family 2 (rounding)" where),                \
+    IMAGE_ROW(c, 3, "family 3 (mirrored quotient)" where),       \
+    IMAGE_ROW(c, 4, "family 4 (mirrored Vanderbeck)" where),     \
+    IMAGE_ROW(c, 5, "family 5 (Burdett-Johnson)" where),         \
+    IMAGE_ROW(c, 6, "family 6 (mirrored Letchford-Lodi)" where), \
+    IMAGE_ROW(c, 7, "family 7 (Dash-Günlük)" where)
+#define TABLE_ROW(c, scale, what) \
+    {"table check, C = " what, prepare_table, c, scale, run_table_check, "µs", 1e6, 1, 0, 0, 0}
+#define JOB_ROW(prepare, c, with, what, at_most) \
+    {"job, " what, prepare, c, with, run_one_job, "µs", 1e6, 1, at_most, 1, 0}
 /* Two rows behind the one without blocks. */
-#define BLOCKS_ROW(prepare, with, what, at_most) \
-    {"job, " what, prepare, with, run_one_job, "µs", 1e6, 1, at_most, 2, 0}
-#define SHORT_TABLE_ROW(with, what, at_most) \
-    {"job, " what, prepare_short_table, with, run_one_job, "µs", 1e6, 1, at_most, 1, \
+#define BLOCKS_ROW(prepare, c, with, what, at_most) \
+    {"job, " what, prepare, c, with, run_one_job, "µs", 1e6, 1, at_most, 2, 0}
+#define SHORT_TABLE_ROW(c, with, what, at_most) \
+    {"job, " what, prepare_short_table, c, with, run_one_job, "µs", 1e6, 1, at_most, 1, \
      WINDOWFLOOR_OTHER_CAPACITY}
-#define SWEEP_ROW(with, name) \
-    {"sweep, 4,096 p × 2,048 sizes, " name, prepare_sweep, with, run_one_sweep, "ms", 1e3, 1, 0, 0, 0}
-#define COUNTED_SWEEP_ROW(with, name) \
-    {"sweep, 4,096 p × 2,048 sizes with counts, " name, prepare_counted_sweep, with, run_one_sweep, \
+#define SWEEP_ROW(c, with, name) \
+    {"sweep, 4,096 p × 2,048 sizes, " name, prepare_sweep, c, with, run_one_sweep, "ms", 1e3, 1, 0, 0, 0}
+#define COUNTED_SWEEP_ROW(c, with, name) \
+    {"sweep, 4,096 p × 2,048 sizes with counts, " name, prepare_counted_sweep, c, with, run_one_sweep, \
      "ms", 1e3, 1, 0, 0, 0}
+#define AT_LIMIT ", C = 4 × 10^9"
+
+enum { MILLION = 1000000, SWEPT = 100003 }; /* capacities */
 
 static const struct row rows[] = {
-    IMAGE_ROW(1, "family 1 (threshold)"),
-    IMAGE_ROW(2, "family 2 (rounding)"),
-    IMAGE_ROW(3, "family 3 (mirrored quotient)"),
-    IMAGE_ROW(4, "family 4 (mirrored Vanderbeck)"),
-    IMAGE_ROW(5, "family 5 (Burdett-Johnson)"),
-    IMAGE_ROW(6, "family 6 (mirrored Letchford-Lodi)"),
-    IMAGE_ROW(7, "family 7 (Dash-Günlük)"),
-    TABLE_ROW(255, "255"),
-    TABLE_ROW(1023, "1,023"),
-    TABLE_ROW(2047, "2,047"),
-    JOB_ROW(prepare_family_job, 0, "2,048 sizes, no step", 0),
-    JOB_ROW(prepare_family_job, 1, "2,048 sizes, 1 family step", 0),
-    JOB_ROW(prepare_family_job, 8, "2,048 sizes, 8 family steps", 0),
-    JOB_ROW(prepare_counted_job, 8, "2,048 sizes with counts, 8 family steps", 1.15),
-    BLOCKS_ROW(prepare_blocked_job, 8, "2,048 sizes in 64 blocks, 8 family steps", 1.1),
-    BLOCKS_ROW(prepare_counted_blocked_job, 8, "2,048 sizes with counts in 64 blocks, 8 family steps", 1.1),
-    JOB_ROW(prepare_table_job, 7, "2,039 sizes, 7 tables of 2,048 entries", 0),
-    JOB_ROW(prepare_table_job, 1, "2,039 sizes, 1 table of 2,048 entries", 0),
-    SHORT_TABLE_ROW(2, "2,039 sizes, 1 table of 2,048 entries, then one refused with 18", 1.3),
-    SHORT_TABLE_ROW(1, "2,039 sizes, the first table refused with 18", 0.05),
-    JOB_ROW(prepare_family_rows, 1, "1 row of 2,048 coefficients, 8 family steps", 0),
-    JOB_ROW(prepare_family_rows, 64, "64 rows of 32 coefficients, 8 family steps", 1.5),
-    JOB_ROW(prepare_table_rows, 1, "1 row of 1,920 coefficients, 7 tables of 2,048 entries", 0),
-    JOB_ROW(prepare_table_rows, 64, "64 rows of 30 coefficients, 7 tables of 2,048 entries", 1.3),
-    SWEEP_ROW(1, "family 1"),
-    SWEEP_ROW(2, "family 2"),
-    SWEEP_ROW(3, "family 3"),
-    SWEEP_ROW(4, "family 4"),
-    SWEEP_ROW(5, "family 5"),
-    COUNTED_SWEEP_ROW(1, "family 1"),
-    COUNTED_SWEEP_ROW(2, "family 2"),
-    COUNTED_SWEEP_ROW(3, "family 3"),
-    COUNTED_SWEEP_ROW(4, "family 4"),
-    COUNTED_SWEEP_ROW(5, "family 5"),
+    IMAGE_ROWS(MILLION, ""),
+    TABLE_ROW(255, 255, "255"),
+    TABLE_ROW(1023, 1023, "1,023"),
+    TABLE_ROW(2047, 2047, "2,047"),
+    JOB_ROW(prepare_family_job, MILLION, 0, "2,048 sizes, no step", 0),
+    JOB_ROW(prepare_family_job, MILLION, 1, "2,048 sizes, 1 family step", 0),
+    JOB_ROW(prepare_family_job, MILLION, 8, "2,048 sizes, 8 family steps", 0),
+    JOB_ROW(prepare_counted_job, MILLION, 8, "2,048 sizes with counts, 8 family steps", 1.15),
+    BLOCKS_ROW(prepare_blocked_job, MILLION, 8, "2,048 sizes in 64 blocks, 8 family steps", 1.1),
+    BLOCKS_ROW(prepare_counted_blocked_job, MILLION, 8,
+               "2,048 sizes with counts in 64 blocks, 8 family steps", 1.1),
+    JOB_ROW(prepare_table_job, 2047, 7, "2,039 sizes, 7 tables of 2,048 entries", 0),
+    JOB_ROW(prepare_table_job, 2047, 1, "2,039 sizes, 1 table of 2,048 entries", 0),
+    SHORT_TABLE_ROW(2047, 2, "2,039 sizes, 1 table of 2,048 entries, then one refused with 18", 1.3),
+    SHORT_TABLE_ROW(2047, 1, "2,039 sizes, the first table refused with 18", 0.05),
+    JOB_ROW(prepare_family_rows, MILLION, 1, "1 row of 2,048 coefficients, 8 family steps", 0),
+    JOB_ROW(prepare_family_rows, MILLION, 64, "64 rows of 32 coefficients, 8 family steps", 1.5),
+    JOB_ROW(prepare_table_rows, 2047, 1, "1 row of 1,920 coefficients, 7 tables of 2,048 entries", 0),
+    JOB_ROW(prepare_table_rows, 2047, 64, "64 rows of 30 coefficients, 7 tables of 2,048 entries", 1.3),
+    SWEEP_ROW(SWEPT, 1, "family 1"),
+    SWEEP_ROW(SWEPT, 2, "family 2"),
+    SWEEP_ROW(SWEPT, 3, "family 3"),
+    SWEEP_ROW(SWEPT, 4, "family 4"),
+    SWEEP_ROW(SWEPT, 5, "family 5"),
+    COUNTED_SWEEP_ROW(SWEPT, 1, "family 1"),
+    COUNTED_SWEEP_ROW(SWEPT, 2, "family 2"),
+    COUNTED_SWEEP_ROW(SWEPT, 3, "family 3"),
+    COUNTED_SWEEP_ROW(SWEPT, 4, "family 4"),
+    COUNTED_SWEEP_ROW(SWEPT, 5, "family 5"),
+    IMAGE_ROWS(WINDOWFLOOR_LIMIT, AT_LIMIT),
+    TABLE_ROW(2047, WINDOWFLOOR_LIMIT, "2,047, entries up to 4 × 10^9"),
+    JOB_ROW(prepare_family_job, WINDOWFLOOR_LIMIT, 8, "2,048 sizes, 8 family steps" AT_LIMIT, 0),
+    JOB_ROW(prepare_counted_job, WINDOWFLOOR_LIMIT, 8, "2,048 sizes with counts, 8 family steps" AT_LIMIT,
+            1.15),
+    SWEEP_ROW(WINDOWFLOOR_LIMIT, 1, "family 1" AT_LIMIT),
+    SWEEP_ROW(WINDOWFLOOR_LIMIT / 4096, 2, "family 2, C = 976,562"), /* at the limit p = 1 alone */
+    SWEEP_ROW(WINDOWFLOOR_LIMIT, 3, "family 3" AT_LIMIT),
+    SWEEP_ROW(WINDOWFLOOR_LIMIT, 4, "family 4" AT_LIMIT),
+    SWEEP_ROW(WINDOWFLOOR_LIMIT, 5, "family 5" AT_LIMIT),
 };
 
 /* Comparing and measuring */
@@ -515,7 +550,7 @@ int main(void)
     static struct samples samples[ROWS];
     for (int round = 0; round < ROUNDS; round++)
         for (int i = 0; i < ROWS; i++) {
-            rows[i].prepare(rows[i].with);
+            rows[i].prepare(rows[i].of_capacity, rows[i].with);
             compare(&rows[i]);
             measure(&rows[i], &samples[i]);
         }

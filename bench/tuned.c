@@ -28,8 +28,15 @@ static inline uint64_t mirrored(const struct prepared *s, uint64_t part, uint64_
     return 2 * x == s->capacity ? s->top : image;
 }
 
-/* All are below 2^31 and compared as signed numbers: any x86-64 has vectors for these comparisons alone. */
 static inline uint64_t threshold(const struct prepared *s, uint32_t x)
+{
+    uint32_t kept = x < s->p ? 0 : x;
+    return x > s->capacity - s->p ? s->capacity : kept;
+}
+
+/* For capacities below 2^31, as signed numbers: any x86-64 has vectors for these comparisons alone, and
+ * unsigned ones take an operation more. */
+static inline uint64_t small_threshold(const struct prepared *s, uint32_t x)
 {
     int32_t size = (int32_t)x, least = (int32_t)s->p, most = (int32_t)(s->capacity - s->p);
     uint32_t kept = size < least ? 0 : x;
@@ -90,9 +97,12 @@ static inline struct prepared prepare(uint64_t capacity, uint8_t family, uint64_
 }
 
 /* Puts a statement behind each family, so that the choice is made once and each has its own code. */
-#define FOR_FAMILY(family, STATEMENT)                                                             \
+#define FOR_FAMILY(capacity, family, STATEMENT)                                                   \
     switch (family) {                                                                             \
-    case 1: STATEMENT(1, threshold) break;                                                        \
+    case 1:                                                                                       \
+        if ((capacity) <= INT32_MAX) { STATEMENT(1, small_threshold) }                            \
+        else { STATEMENT(1, threshold) }                                                          \
+        break;                                                                                    \
     case 2: STATEMENT(2, rounding) break;                                                         \
     case 3: STATEMENT(3, quotient) break;                                                         \
     case 4: STATEMENT(4, vanderbeck) break;                                                       \
@@ -108,7 +118,7 @@ static void map_family(uint64_t capacity, uint8_t family, uint64_t p, uint64_t q
 #define EACH(k, formula)           \
     for (size_t i = 0; i < n; i++) \
         list[i] = (uint32_t)formula(&s, list[i]);
-    FOR_FAMILY(family, EACH)
+    FOR_FAMILY(capacity, family, EACH)
 #undef EACH
 }
 
@@ -127,7 +137,7 @@ static uint64_t sum_of_images(uint64_t capacity, uint8_t family, uint64_t p, con
 #define ADD(k, formula)            \
     for (size_t i = 0; i < n; i++) \
         sum += counts[i] * formula(&s, sizes[i]);
-    FOR_FAMILY(family, ADD)
+    FOR_FAMILY(capacity, family, ADD)
 #undef ADD
     return sum;
 }
@@ -151,7 +161,7 @@ struct windowfloor_image_answer tuned_image(uint64_t capacity, uint8_t family, u
         answer.scale = scale;                                            \
     }                                                                    \
     return answer;
-    FOR_FAMILY(family, ANSWER)
+    FOR_FAMILY(capacity, family, ANSWER)
 #undef ANSWER
     answer.number = refusal(capacity, family, p, q, x, &scale);
     return answer;

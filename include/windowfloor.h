@@ -20,10 +20,10 @@ extern "C" {
 #endif
 
 /* The version of this header and of the library: CHANGELOG.md says what came with it. */
-#define WINDOWFLOOR_VERSION "4.0.0"
+#define WINDOWFLOOR_VERSION "4.1.0"
 
-/* Limits: unsigned constants. */
-#define WINDOWFLOOR_LIMIT 1000000000u     /* the greatest capacity, parameter, scale and table entry */
+/* Limits: unsigned constants. Twice the first of them takes 64 bits. */
+#define WINDOWFLOOR_LIMIT 4000000000u     /* the greatest capacity, parameter, scale and table entry */
 #define WINDOWFLOOR_FAMILIES 7u           /* families are 1 to 7 */
 #define WINDOWFLOOR_SWEEP_FAMILIES 5u     /* those without q, 1 to 5, can be swept */
 #define WINDOWFLOOR_MOST_ENTRIES 2048u    /* entries of a table; its capacity is one less */

@@ -100,6 +100,81 @@ static const char *const half_names[HALVES] = {
     "image", "first step", "later step", "sweep", "one over",
 };
 
+/* Accepted images by family: what is over the old limit, sizes that twice are over 32 bits, and products:
+ * of family 2 over 32 bits, of families 4 and 6 over the square of the old limit. */
+enum wide {
+    WIDE_CAPACITY, WIDE_P, WIDE_Q, WIDE_SCALE, WIDE_IMAGE, WIDE_TWICE_SIZE, WIDE_PRODUCT, WIDES
+};
+
+static const char *const wide_names[WIDES] = {"capacity", "p", "q", "scale", "image", "2 x", "product"};
+static const unsigned char wide_due[WINDOWFLOOR_FAMILIES + 1][WIDES] = {
+    [1] = {1, 1, 0, 1, 1, 1, 0}, [2] = {1, 1, 0, 1, 1, 1, 1}, [3] = {1, 1, 0, 1, 1, 1, 0},
+    [4] = {1, 1, 0, 1, 1, 1, 1}, [5] = {1, 1, 0, 1, 1, 1, 0}, [6] = {1, 1, 1, 1, 1, 1, 1},
+    [7] = {1, 1, 1, 1, 1, 1, 0},
+};
+
+/* Images refused with 3 that would be legal if 2 * p were cut to 32 bits, and with 4 by their scale. */
+enum refused_wide { TWICE_P, SCALE_IN_32_BITS, SCALE_OVER_32_BITS, SCALE_OVER_63_BITS, REFUSED_WIDES };
+
+static const char *const refused_wide_names[REFUSED_WIDES] = {
+    "3 for 2 p", "4 within 32 bits", "4 over 32 bits", "4 over 63 bits",
+};
+static const unsigned char refused_wide_due[WINDOWFLOOR_FAMILIES + 1][REFUSED_WIDES] = {
+    [1] = {1, 0, 0, 0}, [2] = {0, 1, 1, 1}, [3] = {1, 1, 1, 0}, [4] = {0, 1, 1, 0}, [6] = {0, 1, 1, 1},
+    [7] = {0, 1, 1, 1},
+};
+
+/* What is over the old limit in accepted jobs, by kind, a capacity that a step leaves to another among it;
+ * in accepted tables; and, by family, in accepted sweeps. Of a table refused with 11, best over 32 bits. */
+enum wide_in_job { FIRST_CAPACITY, LATER_CAPACITY, JOB_IMAGE, WIDES_IN_JOB };
+enum wide_in_table { TABLE_SCALE, BEST_OVER_32_BITS, WIDES_IN_TABLE };
+enum wide_in_sweep { SWEEP_CAPACITY, SWEEP_P, WIDES_IN_SWEEP };
+
+static const char *const wide_job_names[WIDES_IN_JOB] = {"capacity", "later capacity", "image"};
+static const char *const wide_table_names[WIDES_IN_TABLE] = {"scale", "11 with best over 32 bits"};
+static const char *const wide_sweep_names[WIDES_IN_SWEEP] = {"capacity", "p"};
+
+/* What the limit bounds, at the numbers about the limit and at the last of 32 bits, and which number of
+ * refusal is due there. The greatest legal q has a scale over the limit. */
+enum bounded {
+    CAPACITY_OF_IMAGE, CAPACITY_OF_LIST, RIGHT_SIDE, CAPACITY_OF_SWEEP,
+    P_OF_IMAGE, Q_OF_IMAGE, SCALE_OF_IMAGE, P_OF_STEP_1, Q_OF_STEP_1, SCALE_OF_STEP_1,
+    P_OF_LATER_STEP, Q_OF_LATER_STEP, SCALE_OF_LATER_STEP, P_OF_SWEEP,
+    ENTRY_OF_TABLE, ENTRY_OF_STEP_1, ENTRY_OF_LATER_STEP, BOUNDED
+};
+enum border { ONE_UNDER_LIMIT, AT_LIMIT, ONE_OVER_LIMIT, LAST_OF_32_BITS, BORDERS };
+
+static const char *const border_names[BORDERS] = {"limit - 1", "limit", "limit + 1", "2^32 - 1"};
+static const uint64_t borders[BORDERS] = {
+    WINDOWFLOOR_LIMIT - 1, WINDOWFLOOR_LIMIT, WINDOWFLOOR_LIMIT + 1, UINT32_MAX,
+};
+static const struct {
+    const char *name;
+    uint64_t numbers[BORDERS];
+} bounded[BOUNDED] = {
+    [CAPACITY_OF_IMAGE] = {"  capacity of an image   ", {0, 0, 1, 1}},
+    [CAPACITY_OF_LIST] = {"  capacity of a list     ", {0, 0, 1, 1}},
+    [RIGHT_SIDE] = {"  right side of a row    ", {0, 0, 1, 1}},
+    [CAPACITY_OF_SWEEP] = {"  capacity of a sweep    ", {0, 0, 1, 1}},
+    [P_OF_IMAGE] = {"  p of an image          ", {0, 0, 3, 3}},
+    [Q_OF_IMAGE] = {"  q of an image          ", {0, 4, 3, 3}},
+    [SCALE_OF_IMAGE] = {"  scale of an image      ", {0, 0, 4, 4}},
+    [P_OF_STEP_1] = {"  p of a first step      ", {0, 0, 3, 3}},
+    [Q_OF_STEP_1] = {"  q of a first step      ", {0, 4, 3, 3}},
+    [SCALE_OF_STEP_1] = {"  scale of a first step  ", {0, 0, 4, 4}},
+    [P_OF_LATER_STEP] = {"  p of a later step      ", {0, 0, 3, 3}},
+    [Q_OF_LATER_STEP] = {"  q of a later step      ", {0, 4, 3, 3}},
+    [SCALE_OF_LATER_STEP] = {"  scale of a later step  ", {0, 0, 4, 4}},
+    [P_OF_SWEEP] = {"  p of a sweep           ", {0, 0, 20, 20}},
+    [ENTRY_OF_TABLE] = {"  entry of a table       ", {0, 0, 10, 10}},
+    [ENTRY_OF_STEP_1] = {"  entry of a first step  ", {0, 0, 10, 10}},
+    [ENTRY_OF_LATER_STEP] = {"  entry of a later step  ", {0, 0, 10, 10}},
+};
+
+static const char *const family_names[WINDOWFLOOR_FAMILIES + 1] = {
+    "", "  family 1", "  family 2", "  family 3", "  family 4", "  family 5", "  family 6", "  family 7",
+};
+
 /* What was seen: how often each number came from each operation, and from how many steps a job, or a job
  * of rows, got through, or at which it was refused. */
 static unsigned long seen[TALLIES][NUMBERS];
@@ -111,6 +186,11 @@ static unsigned long counted[2][SORTS]; /* jobs, sweeps */
 static unsigned long in_blocks[BLOCK_SORTS], wrong_blocks[WRONGS];
 static unsigned long short_buffers[BUFFERS], short_blocks[KINDS];
 static unsigned long halves[HALVES];
+static unsigned long wide_images[WINDOWFLOOR_FAMILIES + 1][WIDES];
+static unsigned long refused_wide_images[WINDOWFLOOR_FAMILIES + 1][REFUSED_WIDES];
+static unsigned long wide_jobs[KINDS][WIDES_IN_JOB], wide_tables[WIDES_IN_TABLE];
+static unsigned long wide_sweeps[WINDOWFLOOR_SWEEP_FAMILIES + 1][WIDES_IN_SWEEP];
+static unsigned long at_borders[BOUNDED][BORDERS];
 
 /* Inputs lie right before memory that cannot be read, so that a read past their end is a crash. Two edges
  * are for the two inputs of a sweep. */
@@ -243,24 +323,108 @@ static void count_rounded(enum quotient quotient, uint64_t a, uint64_t b)
     rounded[quotient][left == 0 ? NONE : left == 1 ? ONE : left == b - 1 ? ONE_SHORT : ANOTHER]++;
 }
 
+static uint64_t lesser(uint64_t a, uint64_t b)
+{
+    return a < b ? a : b;
+}
+
 /* Family 1, with 2 * p so much more than the capacity. */
 static int is_threshold(uint64_t capacity, uint8_t family, uint64_t p, uint64_t more)
 {
-    return family == 1 && 2 * p == capacity + more;
+    return family == 1 && p <= capacity && 2 * p == capacity + more;
 }
 
-/* Of an accepted image: a threshold at half, and the quotient that it rounds up, if there is one. */
-static void count_image(const struct image_input *in)
+static void count_border(enum bounded what, uint64_t value, uint64_t number)
+{
+    for (int border = 0; border < BORDERS; border++)
+        at_borders[what][border] += value == borders[border] && number == bounded[what].numbers[border];
+}
+
+/* The step of an image or of a job: p, q and scale, counted from `p_of` on. A p or q over the limit counts
+ * where the limit would be legal in its place, and a scale over 32 bits as the last of them. */
+static void count_step_borders(enum bounded p_of, const struct image_input *in, uint64_t number)
+{
+    uint64_t p = lesser(in->p, WINDOWFLOOR_LIMIT), q = lesser(in->q, WINDOWFLOOR_LIMIT);
+    if (reference_image(in->capacity, in->family, p, q, 0).number == WINDOWFLOOR_BAD_PARAMETER)
+        return;
+    count_border(p_of, in->p, number);
+    count_border(p_of + 1, in->q, number);
+    if (number == 0 || number == WINDOWFLOOR_SCALE_TOO_LARGE)
+        count_border(p_of + 2, lesser(reference_scale(in->capacity, in->family, p, q), UINT32_MAX), number);
+}
+
+/* What an accepted image of family 4, 6 or 7 divides and rounds up; 0 if it divides nothing. */
+static uint64_t dividend_of(const struct image_input *in)
+{
+    uint64_t side = lesser(in->x, in->capacity - in->x);
+    if (in->family == 4)
+        return in->p * side;
+    uint64_t r = in->capacity % in->p, a = (in->family == 6 ? side : in->x) % in->p;
+    return a > r ? (a - r) * in->q : 0;
+}
+
+static void count_dividend(const struct image_input *in, enum quotient quotient, uint64_t divisor)
+{
+    uint64_t dividend = dividend_of(in);
+    if (dividend > 0)
+        count_rounded(quotient, dividend, divisor);
+    wide_images[in->family][WIDE_PRODUCT] += dividend > (uint64_t)OLD_LIMIT * OLD_LIMIT;
+}
+
+/* Of an accepted image: a threshold at half, and products. */
+static void count_formula(const struct image_input *in)
 {
     halves[IN_IMAGE] += is_threshold(in->capacity, in->family, in->p, 1);
-    uint64_t lesser = 2 * in->x < in->capacity ? in->x : in->capacity - in->x;
-    if (in->family == 4 && lesser > 0)
-        count_rounded(OF_FAMILY_4, in->p * lesser, in->capacity);
-    if (in->family < 6)
-        return;
-    uint64_t r = in->capacity % in->p, a = (in->family == 6 ? lesser : in->x) % in->p;
-    if (a > r)
-        count_rounded(in->family == 6 ? OF_FAMILY_6 : OF_FAMILY_7, (a - r) * in->q, in->p - r);
+    switch (in->family) {
+    case 2: wide_images[2][WIDE_PRODUCT] += in->x * (in->p + 1) > UINT32_MAX; break;
+    case 4: count_dividend(in, OF_FAMILY_4, in->capacity); break;
+    case 6: count_dividend(in, OF_FAMILY_6, in->p - in->capacity % in->p); break;
+    case 7: count_dividend(in, OF_FAMILY_7, in->p - in->capacity % in->p); break;
+    }
+}
+
+static void count_accepted_image(const struct image_input *in, const struct windowfloor_image_answer *answer)
+{
+    unsigned long *wide = wide_images[in->family];
+    count_formula(in);
+    wide[WIDE_CAPACITY] += in->capacity > OLD_LIMIT;
+    wide[WIDE_P] += in->p > OLD_LIMIT;
+    wide[WIDE_Q] += in->q > OLD_LIMIT;
+    wide[WIDE_SCALE] += answer->scale > OLD_LIMIT;
+    wide[WIDE_IMAGE] += answer->image > OLD_LIMIT;
+    wide[WIDE_TWICE_SIZE] += 2 * in->x > UINT32_MAX;
+}
+
+/* Family 1 or 3: whether 2 * p, cut to 32 bits, is legal. */
+static int is_legal_if_cut(const struct image_input *in)
+{
+    if ((in->family != 1 && in->family != 3) || in->p == 0 || in->p > WINDOWFLOOR_LIMIT || in->q != 0)
+        return 0;
+    return (uint32_t)(2 * in->p) <= in->capacity + (in->family == 1);
+}
+
+static void count_refused_image(const struct image_input *in, uint64_t number)
+{
+    if (number == WINDOWFLOOR_BAD_PARAMETER) {
+        halves[ONE_OVER] += in->q == 0 && is_threshold(in->capacity, in->family, in->p, 2);
+        refused_wide_images[in->family][TWICE_P] += is_legal_if_cut(in);
+    }
+    if (number == WINDOWFLOOR_SCALE_TOO_LARGE) {
+        uint64_t scale = reference_scale(in->capacity, in->family, in->p, in->q);
+        refused_wide_images[in->family][scale <= UINT32_MAX  ? SCALE_IN_32_BITS
+                                        : scale <= INT64_MAX ? SCALE_OVER_32_BITS
+                                                             : SCALE_OVER_63_BITS]++;
+    }
+}
+
+static void count_image(const struct image_input *in, const struct windowfloor_image_answer *answer)
+{
+    if (answer->number == 0)
+        count_accepted_image(in, answer);
+    else
+        count_refused_image(in, answer->number);
+    count_border(CAPACITY_OF_IMAGE, in->capacity, answer->number);
+    count_step_borders(P_OF_IMAGE, in, answer->number);
 }
 
 static void compare_image(void)
@@ -273,10 +437,26 @@ static void compare_image(void)
     struct windowfloor_image_answer reference =
         reference_image(in.capacity, in.family, in.p, in.q, in.x);
     judge(IMAGE, &library, &reference, sizeof library, 1, &in, sizeof in);
-    if (library.number == 0)
-        count_image(&in);
-    halves[ONE_OVER] += library.number == WINDOWFLOOR_BAD_PARAMETER && in.q == 0
-        && is_threshold(in.capacity, in.family, in.p, 2);
+    count_image(&in, &library);
+}
+
+static uint32_t greatest(const uint32_t *numbers, size_t n)
+{
+    uint32_t most = 0;
+    for (size_t i = 0; i < n; i++)
+        most = numbers[i] > most ? numbers[i] : most;
+    return most;
+}
+
+/* Of a table check, which writes best to `working`. */
+static void count_table(const struct table_input *in, uint64_t number, const uint64_t *working)
+{
+    if (number == 0)
+        wide_tables[TABLE_SCALE] += in->entries[in->count - 1] > OLD_LIMIT;
+    if (number == WINDOWFLOOR_NOT_DUAL_FEASIBLE)
+        wide_tables[BEST_OVER_32_BITS] += working[in->count - 1] > UINT32_MAX;
+    if (number == 0 || number == WINDOWFLOOR_ENTRY_TOO_LARGE)
+        count_border(ENTRY_OF_TABLE, greatest(in->entries, in->count), number);
 }
 
 static void compare_table(void)
@@ -297,6 +477,7 @@ static void compare_table(void)
     judge(TABLE, &library, &reference, sizeof library,
           same_buffers(&working) && same_buffers(&list) && memcmp(table, in.entries, bytes) == 0,
           in.entries, bytes);
+    count_table(&in, library.number, library_places(&working));
 }
 
 static enum kind kind_of(const struct job_input *in)
@@ -569,17 +750,98 @@ static uint64_t scale_of(const struct job_input *in, size_t at, uint64_t capacit
                            read_number(in, value + 5), 0).scale;
 }
 
-/* In a job of rows, of its first row: the capacity, or the right side, stands behind 7 bytes. */
-static void count_halves(const struct job_input *in)
+/* The capacity of a job, or in a job of rows the right side of this row, counted from 1. */
+static uint64_t first_capacity(const struct job_input *in, uint64_t row)
 {
-    uint64_t capacity = read_number(in, 7);
+    size_t at = 4;
+    for (; row > 1; row--)
+        at += 3 + value_bytes(in, at);
+    return read_number(in, at + 3);
+}
+
+/* The capacity that a step gets, where the steps before it are accepted. */
+static uint64_t capacity_at(const struct job_input *in, uint64_t first, uint64_t step)
+{
+    for (uint64_t before = 1; before < step; before++)
+        first = scale_of(in, step_at(in, before), first);
+    return first;
+}
+
+/* The family step that starts there. */
+static struct image_input read_step(const struct job_input *in, size_t at, uint64_t capacity)
+{
+    struct image_input s = {capacity, read_number(in, at + 4), read_number(in, at + 8), 0, in->bytes[at + 3]};
+    return s;
+}
+
+/* The entries of the table that starts there; answers how many. */
+static size_t read_entries(const struct job_input *in, size_t at, uint32_t *entries)
+{
+    size_t count = value_bytes(in, at) / 4;
+    for (size_t x = 0; x < count; x++)
+        entries[x] = (uint32_t)read_number(in, at + 3 + 4 * x);
+    return count;
+}
+
+static void count_table_borders(const struct job_input *in, uint64_t step, uint64_t number)
+{
+    static uint32_t entries[WINDOWFLOOR_MOST_ENTRIES];
+    size_t count = read_entries(in, step_at(in, step), entries);
+    count_border(step == 1 ? ENTRY_OF_STEP_1 : ENTRY_OF_LATER_STEP, greatest(entries, count), number);
+}
+
+static void count_family_borders(const struct job_input *in, uint64_t step, uint64_t capacity,
+                                 uint64_t number)
+{
+    struct image_input s = read_step(in, step_at(in, step), capacity);
+    count_step_borders(step == 1 ? P_OF_STEP_1 : P_OF_LATER_STEP, &s, number);
+    halves[step == 1 ? IN_FIRST_STEP : IN_LATER_STEP] +=
+        number == 0 && is_threshold(s.capacity, s.family, s.p, 1);
+}
+
+/* Of an accepted job; if it has rows, of the first. */
+static void count_steps(const struct job_input *in)
+{
+    uint64_t capacity = first_capacity(in, 1);
     size_t steps = steps_of(in);
     for (size_t step = 1; step <= steps; step++) {
         size_t at = step_at(in, step);
-        halves[step == 1 ? IN_FIRST_STEP : IN_LATER_STEP] += in->bytes[at] == WINDOWFLOOR_TAG_FAMILY
-            && is_threshold(capacity, in->bytes[at + 3], read_number(in, at + 4), 1);
+        wide_jobs[kind_of(in)][LATER_CAPACITY] += step > 1 && capacity > OLD_LIMIT;
+        if (in->bytes[at] == WINDOWFLOOR_TAG_TABLE)
+            count_table_borders(in, step, 0);
+        else
+            count_family_borders(in, step, capacity, 0);
         capacity = scale_of(in, at, capacity);
     }
+}
+
+static void count_capacity_border(const struct job_input *in, uint64_t row, uint64_t number)
+{
+    count_border(is_rows(in) ? RIGHT_SIDE : CAPACITY_OF_LIST, first_capacity(in, row), number);
+}
+
+/* Of a job that is refused for the limit, or for p or q. */
+static void count_refused_border(const struct job_input *in, const struct windowfloor_job_answer *answer)
+{
+    switch (answer->number) {
+    case WINDOWFLOOR_BAD_CAPACITY:
+        count_capacity_border(in, answer->row, answer->number);
+        break;
+    case WINDOWFLOOR_ENTRY_TOO_LARGE:
+        count_table_borders(in, answer->step, answer->number);
+        break;
+    case WINDOWFLOOR_BAD_PARAMETER: case WINDOWFLOOR_SCALE_TOO_LARGE:
+        count_family_borders(in, answer->step,
+                             capacity_at(in, first_capacity(in, answer->row), answer->step),
+                             answer->number);
+        break;
+    }
+}
+
+static void count_wide_job(const struct job_input *in, const uint32_t *images, size_t n)
+{
+    wide_jobs[kind_of(in)][FIRST_CAPACITY] += first_capacity(in, 1) > OLD_LIMIT;
+    wide_jobs[kind_of(in)][JOB_IMAGE] += greatest(images, n) > OLD_LIMIT;
 }
 
 /* A block: its images and counts, and its floor. */
@@ -628,7 +890,9 @@ static void count_accepted(const struct job_input *in, const struct windowfloor_
                            struct lent_to_job *lent)
 {
     count_shape(in, library_places(&lent->scales));
-    count_halves(in);
+    count_capacity_border(in, 1, 0);
+    count_steps(in);
+    count_wide_job(in, library_places(&lent->images), answer->n);
     if (kind_of(in) != KIND_FLOOR)
         return;
     count_rounded(OF_JOB, answer->sum, answer->scale);
@@ -640,9 +904,7 @@ static uint64_t check_step(const struct job_input *in, uint64_t step)
 {
     static uint32_t entries[WINDOWFLOOR_MOST_ENTRIES], list[WINDOWFLOOR_JOB_LIST];
     static uint64_t working[WINDOWFLOOR_JOB_WORKING];
-    size_t at = step_at(in, step), count = value_bytes(in, at) / 4;
-    for (size_t x = 0; x < count; x++)
-        entries[x] = (uint32_t)read_number(in, at + 3 + 4 * x);
+    size_t count = read_entries(in, step_at(in, step), entries);
     return reference_table_check(entries, count, working, WINDOWFLOOR_JOB_WORKING, list,
                                  WINDOWFLOOR_JOB_LIST).number;
 }
@@ -653,6 +915,7 @@ static void count_refusal(const struct job_input *in, const struct windowfloor_j
         seen[answer->row == 1 ? ROW_1 : LATER_ROW][answer->number]++;
     if (answer->number == WINDOWFLOOR_OTHER_CAPACITY)
         seen[BEHIND_18 + kind_of(in)][check_step(in, answer->step)]++;
+    count_refused_border(in, answer);
 }
 
 static void lend_to_job(struct lent_to_job *lent, const struct job_input *in)
@@ -703,7 +966,7 @@ static void compare_job(const struct job_input *in)
     count_job(in, &library, &lent);
 }
 
-/* Of the floor that a sweep has found: its quotient, its counts, and whether its p is a threshold at half. */
+/* Of the floor that a sweep has found: its quotient and counts, and its p. */
 static void count_sweep(const struct sweep_input *in, uint64_t p)
 {
     uint64_t sum = 0;
@@ -712,6 +975,8 @@ static void count_sweep(const struct sweep_input *in, uint64_t p)
     count_rounded(OF_SWEEP, sum, reference_image(in->capacity, in->family, p, 0, 0).scale);
     count_sorts(counted[1], in->counts, in->n, sum);
     halves[IN_SWEEP] += is_threshold(in->capacity, in->family, p, 1);
+    wide_sweeps[in->family][SWEEP_CAPACITY] += in->capacity > OLD_LIMIT;
+    wide_sweeps[in->family][SWEEP_P] += p > OLD_LIMIT;
 }
 
 /* What the sweep's number would be if there were a count of 1 for each size. */
@@ -748,6 +1013,8 @@ static void compare_sweep(const struct sweep_input *in)
     judge(SWEEP, &library, &reference, sizeof library,
           memcmp(sizes, in->sizes, bytes) == 0 && memcmp(counts, in->counts, counts_bytes) == 0,
           in, sizeof *in);
+    count_border(CAPACITY_OF_SWEEP, in->capacity, library.number);
+    count_border(P_OF_SWEEP, library.number == 0 ? library.p : in->low, library.number);
     if (library.number == 0)
         count_sweep(in, library.p);
     else
@@ -876,6 +1143,15 @@ static void compare_largest_blocks(void)
     compare_job(&job);
     for (size_t i = 0; i < sizeof numbers / sizeof *numbers; i++) {
         greatest_sum(&job, numbers[i]);
+        compare_job(&job);
+    }
+}
+
+static void compare_chains_at_limit(void)
+{
+    static struct job_input job;
+    for (unsigned kind = WINDOWFLOOR_KIND_FLOOR; kind <= WINDOWFLOOR_KIND_ROWS; kind++) {
+        chain_at_limit(&job, kind);
         compare_job(&job);
     }
 }
@@ -1015,12 +1291,14 @@ static void report_steps(const char *what, const unsigned long *counts, int *lac
     printf("\n");
 }
 
-/* Each of these has to have been seen. */
-static void report_named(const char *what, const char *const *names_of, const unsigned long *counts,
-                         int kinds, int *lacking)
+/* Each of these that is due has to have been seen; the others cannot be. */
+static void report_due(const char *what, const char *const *names_of, const unsigned long *counts,
+                       const unsigned char *is_due, int kinds, int *lacking)
 {
     printf("%s", what);
     for (int kind = 0; kind < kinds; kind++) {
+        if (is_due != NULL && !is_due[kind])
+            continue;
         printf("  %s:%lu", names_of[kind], counts[kind]);
         if (counts[kind] == 0)
             *lacking = printf(" MISSING");
@@ -1028,11 +1306,58 @@ static void report_named(const char *what, const char *const *names_of, const un
     printf("\n");
 }
 
+/* Each of these is due. */
+static void report_named(const char *what, const char *const *names_of, const unsigned long *counts,
+                         int kinds, int *lacking)
+{
+    report_due(what, names_of, counts, NULL, kinds, lacking);
+}
+
 static void report_rounded(int *lacking)
 {
     printf("quotients rounded up by their remainder\n");
     for (int quotient = 0; quotient < QUOTIENTS; quotient++)
         report_named(quotient_names[quotient], remainder_names, rounded[quotient], REMAINDERS, lacking);
+}
+
+static void report_wide_images(int *lacking)
+{
+    printf("accepted images over the old limit, or over 32 bits\n");
+    for (unsigned family = 1; family <= WINDOWFLOOR_FAMILIES; family++)
+        report_due(family_names[family], wide_names, wide_images[family], wide_due[family], WIDES, lacking);
+}
+
+/* Family 5 has no such images: its p is not doubled, and its scale is within the capacity. */
+static void report_refused_wide_images(int *lacking)
+{
+    printf("images refused with 3 that 2 * p in 32 bits would accept, and with 4 by their scale\n");
+    for (unsigned family = 1; family <= WINDOWFLOOR_FAMILIES; family++)
+        if (family != 5)
+            report_due(family_names[family], refused_wide_names, refused_wide_images[family],
+                       refused_wide_due[family], REFUSED_WIDES, lacking);
+}
+
+static void report_wide_jobs(int *lacking)
+{
+    printf("accepted jobs over the old limit\n");
+    for (enum kind kind = KIND_FLOOR; kind < NO_KIND; kind++) {
+        printf("  %-5s", kind_names[kind]);
+        report_named("", wide_job_names, wide_jobs[kind], WIDES_IN_JOB, lacking);
+    }
+}
+
+static void report_wide_sweeps(int *lacking)
+{
+    printf("accepted sweeps over the old limit\n");
+    for (unsigned family = 1; family <= WINDOWFLOOR_SWEEP_FAMILIES; family++)
+        report_named(family_names[family], wide_sweep_names, wide_sweeps[family], WIDES_IN_SWEEP, lacking);
+}
+
+static void report_borders(int *lacking)
+{
+    printf("numbers about the limit, accepted or refused as is due\n");
+    for (enum bounded what = 0; what < BOUNDED; what++)
+        report_named(bounded[what].name, border_names, at_borders[what], BORDERS, lacking);
 }
 
 static void report_tallies(const char *what, enum tally first, enum tally last, int *lacking)
@@ -1067,6 +1392,12 @@ static unsigned long report_all(int *lacking)
     report_named("accepted sweeps by counts", sort_names, counted[1], SORTS, lacking);
     report_named("thresholds at half of an odd capacity", half_names, halves, HALVES, lacking);
     report_rounded(lacking);
+    report_wide_images(lacking);
+    report_refused_wide_images(lacking);
+    report_named("tables over the old limit", wide_table_names, wide_tables, WIDES_IN_TABLE, lacking);
+    report_wide_jobs(lacking);
+    report_wide_sweeps(lacking);
+    report_borders(lacking);
     report_named("accepted jobs by shape", shape_names, accepted_shapes, SHAPES, lacking);
     report_steps("accepted jobs by steps  ", accepted_steps[0], lacking);
     report_steps("  of rows               ", accepted_steps[1], lacking);
@@ -1088,6 +1419,7 @@ static void compare_all(unsigned long rounds)
     compare_longest_blocks();
     compare_largest();
     compare_largest_blocks();
+    compare_chains_at_limit();
     memcpy(before_rounds, seen, sizeof before_rounds);
     for (unsigned long i = 0; i < rounds; i++)
         compare_round();

@@ -49,6 +49,37 @@ static uint64_t ends_below(uint64_t n)
     }
 }
 
+/* Of 1 to so many bits, each length as often. */
+static uint64_t any_of_bits(unsigned bits)
+{
+    return any_number() >> (64 - bits + below(bits));
+}
+
+/* About the limit and the old one, and where 31 and 32 bits end. */
+static uint64_t border_number(void)
+{
+    static const uint64_t borders[] = {
+        OLD_LIMIT, OLD_LIMIT + 1, INT32_MAX, INT32_MAX + (uint64_t)1, INT32_MAX + (uint64_t)2,
+        WINDOWFLOOR_LIMIT + 1, UINT32_MAX,
+    };
+    return one_in(3) ? LIMIT - below(2) : borders[below(sizeof borders / sizeof *borders)];
+}
+
+static uint64_t legal_border(void)
+{
+    return lesser(border_number(), LIMIT);
+}
+
+/* Over n, which is within the limit, and within 32 bits. */
+static uint64_t word_over(uint64_t n)
+{
+    switch (below(4)) {
+    case 0: return n + 1;
+    case 1: return UINT32_MAX;
+    default: return n + 1 + ends_below(UINT32_MAX - n);
+    }
+}
+
 /* What the next one gets, where so much is left for so many: often nothing, and the last gets all. */
 static size_t random_share(size_t left, size_t sharers)
 {
@@ -62,21 +93,33 @@ static uint64_t legal_capacity(void)
     switch (below(8)) {
     case 0: return 1 + below(6);
     case 1: return 1 + below(2047);
-    case 2: return 1 + below(100000);
-    case 3: return 1 + below(LIMIT);
-    case 4: return LIMIT - below(3);
+    case 2: return 1 + below(below(2) ? 100000 : LIMIT);
+    case 3: return lesser(1 + any_of_bits(32), LIMIT);
+    case 4: return below(2) ? LIMIT - below(3) : legal_border();
     default: return 1 + below(40);
     }
 }
 
-/* Those over 32 bits would be legal if they were cut to 32. */
+/* Border numbers, and small ones, where p and q can be border numbers too. */
+static uint64_t border_capacity(void)
+{
+    return below(2) ? 1 + below(8) : legal_border();
+}
+
+/* Within 32 bits. */
+static uint64_t illegal_word(void)
+{
+    return one_in(3) ? 0 : word_over(LIMIT);
+}
+
+/* Most of those over 32 bits would be legal if they were cut to 32. */
 static uint64_t illegal_capacity(void)
 {
-    switch (below(4)) {
-    case 0: return 0;
-    case 1: return LIMIT + 1 + below(3);
-    case 2: return TWO_TO_32 + 1 + below(100);
-    default: return any_number() | TWO_TO_32;
+    switch (below(5)) {
+    case 0: return TWO_TO_32 + 1 + below(100);
+    case 1: return TWO_TO_32 + legal_border();
+    case 2: return any_of_bits(64) | TWO_TO_32;
+    default: return illegal_word();
     }
 }
 
@@ -90,8 +133,9 @@ static uint64_t parameters(uint64_t capacity, uint8_t family)
 {
     switch (family) {
     case 1: return (capacity + 1) / 2 + 2;
-    case 3: return capacity / 2 + 1;
+    case 3: return capacity / 2 + 2;
     case 2: return LIMIT / capacity + 2;
+    case 4: return lesser(capacity, LIMIT / 2 + 2) + 1;
     default: return capacity + 1;
     }
 }
@@ -102,31 +146,88 @@ static uint64_t least_q(uint64_t capacity, uint64_t p)
     return r == 0 ? 0 : (p - 1) / r;
 }
 
-/* The q at which family 6 or 7 comes to the limit of the scale. */
-static uint64_t greatest_q(uint64_t capacity, uint8_t family, uint64_t p)
+/* The q at which the scale of family 6 or 7 passes this one; at the q before, it is the same or less. */
+static uint64_t q_passing(uint64_t scale, uint64_t capacity, uint8_t family, uint64_t p)
 {
-    uint64_t scale = p == 0 ? 1 : family == 6 ? 2 * (capacity / p)
+    uint64_t share = p == 0 ? 1 : family == 6 ? 2 * (capacity / p)
                                               : (p - capacity % p) * (capacity / p);
-    return LIMIT / (scale == 0 ? 1 : scale);
+    return scale / (share == 0 ? 1 : share);
+}
+
+/* A bit that is lost where a number, or twice a number, is cut to 32 bits. */
+static uint64_t high_bit(void)
+{
+    return (uint64_t)1 << (one_in(3) ? 31 : 32 + below(32));
 }
 
 static void spoil_step(struct family_step *s)
 {
     switch (below(8)) {
     case 0: s->family = (uint8_t)(below(2) ? 0 : 8 + below(248)); break;
-    case 1: s->p = LIMIT + below(2); break;
-    case 2: s->q = LIMIT + below(2); break;
-    case 3: s->p += TWO_TO_32; break;
-    case 4: s->q += 1 + below(3); break;
+    case 1: s->p = below(2) ? border_number() : any_of_bits(64); break;
+    case 2: s->q = below(2) ? border_number() : any_of_bits(64); break;
+    case 3: s->p += high_bit(); break;
+    case 4: s->q += below(2) ? 1 + below(3) : high_bit(); break;
     case 5: s->q -= 1; break;
-    case 6: s->p = below(LIMIT); break;
+    case 6: s->p = any_of_bits(32); break;
     default: s->p = any_number(); break;
     }
+}
+
+/* For families 6 and 7. Over half of the capacity the scale of family 7 is q + 1 or twice that; with 2 and
+ * 3 the scales are greatest. */
+static uint64_t border_p_with_q(uint64_t capacity)
+{
+    switch (below(6)) {
+    case 0: return capacity % 2 == 0 ? 3 : 2;
+    case 1: return capacity / (3 + below(2)) + 1;
+    case 2: return 1 + below(capacity);
+    default: return capacity / 2 + 1;
+    }
+}
+
+/* A p that is a border number, or whose scale or whose double is one or nearly one. */
+static uint64_t border_p(uint64_t capacity, uint8_t family)
+{
+    uint64_t border = border_number(), more = one_in(4);
+    if (one_in(border < parameters(capacity, family) ? 3 : 8))
+        return border;
+    switch (family) {
+    case 1: return (capacity + 1) / 2 + more;
+    case 2: return border / capacity + more;
+    case 3: return below(2) ? 1 + below(3) : capacity / 2 + more;
+    case 4: return lesser(border / 2 + 1 + more, capacity);
+    case 5: return capacity - below(2) + more;
+    default: return border_p_with_q(capacity);
+    }
+}
+
+static uint64_t border_q(uint64_t capacity, uint8_t family, uint64_t p)
+{
+    uint64_t passing = q_passing(border_number(), capacity, family, p);
+    if (passing < 2 || one_in(3))
+        return border_number();
+    return passing - (one_in(4) ? 0 : 1 + below(2));
+}
+
+/* Mostly legal: p, q or the scale is a border number or nearly one. At 1 and 2 families 6 and 7 have no
+ * legal p. */
+static struct family_step border_step(uint64_t capacity)
+{
+    struct family_step s = {(uint8_t)(capacity <= 2 ? 2 : lesser(1 + below(8), 7)), 0, 0};
+    s.p = border_p(capacity, s.family);
+    if (s.family >= 6)
+        s.q = border_q(capacity, s.family, s.p);
+    if (one_in(40))
+        spoil_step(&s);
+    return s;
 }
 
 /* Mostly a legal step; one in `spoiled` is spoiled on purpose. */
 static struct family_step random_step(uint64_t capacity, uint64_t spoiled)
 {
+    if (capacity > OLD_LIMIT && one_in(6))
+        return border_step(capacity);
     struct family_step s = {(uint8_t)(1 + below(7)), 0, 0};
     s.p = ends_below(parameters(capacity, s.family));
     if (s.p == 0 && s.family != 1 && !one_in(20))
@@ -136,7 +237,7 @@ static struct family_step random_step(uint64_t capacity, uint64_t spoiled)
             s.p = 1 + below(capacity);
         s.q = least_q(capacity, s.p) + below(4);
         if (one_in(8))
-            s.q = greatest_q(capacity, s.family, s.p) - below(3);
+            s.q = q_passing(LIMIT, capacity, s.family, s.p) - below(3);
     }
     if (one_in(spoiled))
         spoil_step(&s);
@@ -146,7 +247,19 @@ static struct family_step random_step(uint64_t capacity, uint64_t spoiled)
 static uint64_t random_size(uint64_t capacity, uint64_t least)
 {
     uint64_t x = one_in(4) ? capacity / 2 + below(2) : ends_below(capacity + 1);
+    if (capacity > OLD_LIMIT && one_in(4))
+        x = lesser(border_number(), capacity);
     return x < least ? least : x;
+}
+
+/* Over the capacity, and often legal if it were cut to 32 bits. */
+static uint64_t illegal_size(uint64_t capacity)
+{
+    switch (below(4)) {
+    case 0: return TWO_TO_32 + below(capacity);
+    case 1: return any_of_bits(64) | TWO_TO_32;
+    default: return word_over(capacity);
+    }
 }
 
 /* A size near a place where the step's formula changes: in family 4 that is each p-th of the capacity. */
@@ -183,15 +296,16 @@ static size_t another_length(size_t n)
 
 void random_image(struct image_input *in)
 {
-    uint64_t capacity = legal_capacity();
-    struct family_step s = random_step(capacity, 8);
+    int at_border = one_in(4);
+    uint64_t capacity = at_border ? border_capacity() : legal_capacity();
+    struct family_step s = at_border ? border_step(capacity) : random_step(capacity, 8);
     in->capacity = one_in(25) ? illegal_capacity() : capacity;
     in->family = s.family;
     in->p = s.p;
     in->q = s.q;
     in->x = below(2) ? edge_size(capacity, s) : random_size(capacity, 0);
     if (one_in(20))
-        in->x = one_in(2) ? capacity + 1 + below(3) : TWO_TO_32 + below(capacity);
+        in->x = illegal_size(capacity);
 }
 
 /* Tables */
@@ -242,10 +356,28 @@ static void random_entries(uint32_t *entries, size_t capacity)
     }
 }
 
+static uint32_t border_entry(void)
+{
+    return (uint32_t)(below(2) ? legal_border() : lesser(any_of_bits(32), LIMIT));
+}
+
+/* Of sizes over half the capacity no two fit, so that their images may be any. */
+static void border_entries(uint32_t *entries, size_t capacity)
+{
+    for (size_t x = 0; x < capacity; x++)
+        entries[x] = 2 * x > capacity ? border_entry() : 0;
+    if (below(2))
+        set_last_to_best(entries, capacity, below(2));
+    else
+        entries[capacity] = (uint32_t)legal_border();
+}
+
 static void fill_table(uint32_t *entries, size_t capacity)
 {
     if (below(2))
         images_as_table(entries, capacity);
+    else if (one_in(6))
+        border_entries(entries, capacity);
     else
         random_entries(entries, capacity);
 }
@@ -253,7 +385,7 @@ static void fill_table(uint32_t *entries, size_t capacity)
 static void spoil_table(uint32_t *entries, size_t count)
 {
     if (below(2))
-        entries[below(count)] = (uint32_t)(one_in(2) ? LIMIT + 1 : LIMIT + below(3 * LIMIT));
+        entries[below(count)] = (uint32_t)word_over(LIMIT);
     if (below(2))
         entries[count - 1] = 0;
     if (below(2))
@@ -384,12 +516,19 @@ static void put_table(struct job_input *in, const uint32_t *entries, size_t coun
 }
 
 /* Each step gets the present capacity and answers the next one. */
-static uint64_t put_random_family(struct job_input *in, uint64_t present)
+static uint64_t put_family_step(struct job_input *in, uint64_t present, struct family_step s)
 {
-    struct family_step s = random_step(present, 60);
-    struct windowfloor_image_answer at_0 = reference_image(present, s.family, s.p, s.q, 0);
+    uint32_t p = (uint32_t)s.p, q = (uint32_t)s.q;
+    struct windowfloor_image_answer at_0 = reference_image(present, s.family, p, q, 0);
     put_family(in, s);
     return at_0.number == 0 ? at_0.scale : present;
+}
+
+static uint64_t put_table_step(struct job_input *in, uint64_t present, const uint32_t *entries,
+                               size_t capacity)
+{
+    put_table(in, entries, capacity + 1);
+    return entries[capacity] == 0 || entries[capacity] > LIMIT ? present : entries[capacity];
 }
 
 /* A table of any capacity is often bad in its entries too. */
@@ -400,8 +539,25 @@ static uint64_t put_random_table(struct job_input *in, uint64_t present, int any
     fill_table(entries, capacity);
     if (one_in(any_capacity ? 2 : 30))
         spoil_table(entries, capacity + 1);
-    put_table(in, entries, capacity + 1);
-    return entries[capacity] == 0 || entries[capacity] > LIMIT ? present : entries[capacity];
+    return put_table_step(in, present, entries, capacity);
+}
+
+static uint64_t put_border_table(struct job_input *in, uint64_t present)
+{
+    uint32_t entries[ROOM_ENTRIES];
+    border_entries(entries, present);
+    if (one_in(3))
+        entries[1 + below(present)] = (uint32_t)word_over(LIMIT);
+    if (one_in(4))
+        spoil_table(entries, present + 1);
+    return put_table_step(in, present, entries, present);
+}
+
+static uint64_t put_border_step(struct job_input *in, uint64_t present)
+{
+    if (present <= 60 && one_in(4))
+        return put_border_table(in, present);
+    return put_family_step(in, present, border_step(present));
 }
 
 static uint64_t put_random_step(struct job_input *in, uint64_t present)
@@ -409,7 +565,7 @@ static uint64_t put_random_step(struct job_input *in, uint64_t present)
     int small = present <= 60 || (present <= 2047 && one_in(20));
     if ((small && below(2)) || one_in(100))
         return put_random_table(in, present, !small || one_in(20));
-    return put_random_family(in, present);
+    return put_family_step(in, present, random_step(present, 60));
 }
 
 /* Few for half of the jobs of several rows, so that rows go through with scales of their own. */
@@ -566,6 +722,8 @@ static uint64_t other_right_side(uint64_t first)
 {
     if (one_in(8))
         return 1 + below(first);
+    if (first > OLD_LIMIT && one_in(4))
+        return legal_border();
     return lesser(first + below(first / 4 + 3), LIMIT);
 }
 
@@ -646,7 +804,7 @@ static void spoil_list(struct job_input *in)
     size_t k = in->first_list + below(in->lists);
     size_t start = in->field_at[k] + 3, n = (field_end(in, k) - start) / 4;
     size_t capacity_at = in->bytes[3] == 3 ? start : 7;
-    uint64_t over = 1 + (one_in(2) ? LIMIT + below(3 * LIMIT) : read_number(in, capacity_at));
+    uint64_t over = word_over(one_in(2) ? LIMIT : lesser(read_number(in, capacity_at), LIMIT));
     if (n > 0)
         write_number(in, start + 4 * below(n), one_in(3) ? 0 : over);
 }
@@ -675,7 +833,7 @@ static void damage_values(struct job_input *in)
     case 2: in->bytes[header] += (uint8_t)(below(2) ? 1 : 255); break;
     case 3: in->bytes[header] = (uint8_t)below(256); break;
     case 4: in->bytes[3] = (uint8_t)below(below(2) ? 256 : 4); break;
-    case 5: write_number(in, 7, illegal_capacity()); break; /* the capacity, or row 1's right side */
+    case 5: write_number(in, 7, illegal_word()); break; /* the capacity, or row 1's right side */
     default: spoil_list(in); break;
     }
 }
@@ -713,15 +871,19 @@ static void put_random_steps(struct job_input *in, uint64_t present)
     }
 }
 
-void random_job(struct job_input *in)
+/* Often behind a step that leaves every capacity as it is. */
+static void put_border_steps(struct job_input *in, uint64_t present)
 {
-    unsigned kind = 1 + (unsigned)below(3);
-    uint64_t capacity = below(2) ? legal_capacity() : 1 + below(40);
-    if (kind == 3)
-        put_random_rows(in, capacity);
-    else
-        put_random_list(in, kind, capacity);
-    put_random_steps(in, capacity);
+    struct family_step neutral = {1, below(2), 0};
+    if (one_in(3))
+        put_family(in, neutral);
+    for (size_t steps = 1 + below(3); steps > 0; steps--)
+        present = put_border_step(in, present);
+}
+
+/* Most stay as they are. */
+static void damage_job(struct job_input *in)
+{
     if (one_in(5))
         for (uint64_t times = 1 + below(3); times > 0; times--)
             damage_values(in);
@@ -729,6 +891,23 @@ void random_job(struct job_input *in)
         damage_fields(in);
     if (one_in(100))
         any_bytes(in);
+}
+
+void random_job(struct job_input *in)
+{
+    unsigned kind = 1 + (unsigned)below(3);
+    int at_border = one_in(4);
+    uint64_t capacity = at_border ? border_capacity() : below(2) ? legal_capacity() : 1 + below(40);
+    if (kind == 3)
+        put_random_rows(in, capacity);
+    else
+        put_random_list(in, kind, capacity);
+    if (at_border)
+        put_border_steps(in, capacity);
+    else
+        put_random_steps(in, capacity);
+    if (!at_border || one_in(2))
+        damage_job(in);
     lend_places(in, 100);
 }
 
@@ -898,10 +1077,25 @@ void longest_chain_of_rows(struct job_input *in)
 /* Each step, one of each family, maps the limit to itself. */
 static void put_steps_at_limit(struct job_input *in)
 {
-    static const struct family_step steps[] = {{1, 500000000, 0}, {2, 1, 0}, {3, 2, 0}, {4, 500000001, 0},
-                                               {5, 1, 0}, {6, 600000000, 499999999}, {7, 600000000, 4}};
+    static const struct family_step steps[] = {
+        {1, WINDOWFLOOR_LIMIT / 2, 0}, {2, 1, 0}, {3, 2, 0}, {4, WINDOWFLOOR_LIMIT / 2 + 1, 0}, {5, 1, 0},
+        {6, WINDOWFLOOR_LIMIT / 5 * 3, WINDOWFLOOR_LIMIT / 2 - 1}, {7, WINDOWFLOOR_LIMIT / 5 * 3, 4},
+    };
     for (size_t i = 0; i < sizeof steps / sizeof *steps; i++)
         put_family(in, steps[i]);
+}
+
+void chain_at_limit(struct job_input *in, unsigned kind)
+{
+    if (kind == 3) {
+        put_kind(in, 3);
+        for (size_t row = 0; row < 64; row++)
+            put_row(in, LIMIT, 32);
+    } else {
+        put_list(in, kind, LIMIT, 2048);
+    }
+    put_steps_at_limit(in);
+    lend_places(in, 1000000);
 }
 
 void greatest_sum(struct job_input *in, size_t blocks)
@@ -920,23 +1114,31 @@ void greatest_sum(struct job_input *in, size_t blocks)
 
 /* Sweeps */
 
-static void random_range(struct sweep_input *in)
+static uint64_t random_low(uint64_t capacity, uint8_t family)
 {
-    uint64_t count = parameters(in->capacity, in->family);
-    in->low = ends_below(count);
-    if (one_in(4))
-        in->low = 0;
-    if (one_in(12))
-        in->low = one_in(2) ? LIMIT - below(70) : count + below(3);
-    if (one_in(40))
-        in->low = TWO_TO_32 + below(3);
-    if (one_in(40))
-        in->low = ~(uint64_t)0 - 4095;
+    uint64_t count = parameters(capacity, family);
+    switch (below(30)) {
+    case 0: return ~(uint64_t)0 - 4095;
+    case 1: return TWO_TO_32 + below(3);
+    case 2: return LIMIT - below(70);
+    case 3: return count + below(3);
+    case 4: return any_of_bits(63);
+    default: return one_in(4) ? 0 : ends_below(count);
+    }
+}
+
+static void random_range(struct sweep_input *in, int at_border)
+{
+    in->low = at_border ? border_p(in->capacity, in->family) : random_low(in->capacity, in->family);
+    if (at_border && one_in(3))
+        in->low -= lesser(in->low, below(4));
     in->high = in->low + below(one_in(4) ? 60 : 6);
     if (one_in(40))
         in->high = in->low + 4095 + below(2);
     if (one_in(40))
         in->high = one_in(2) ? in->low - 1 : below(in->low + 1);
+    if (one_in(40))
+        in->high += high_bit();
 }
 
 static void put_sweep_sizes(struct sweep_input *in, size_t n)
@@ -955,12 +1157,13 @@ static void put_sweep_counts(struct sweep_input *in, size_t length, int all_1)
 
 void random_sweep(struct sweep_input *in)
 {
-    in->capacity = legal_capacity();
+    int at_border = one_in(4);
+    in->capacity = at_border ? border_capacity() : legal_capacity();
     in->family = (uint8_t)(1 + below(5));
-    random_range(in);
+    random_range(in, at_border);
     put_sweep_sizes(in, one_in(300) ? 2047 + below(3) : below(16));
     if (in->n > 0 && one_in(20))
-        in->sizes[below(in->n)] = (uint32_t)(one_in(2) ? 0 : in->capacity + 1 + below(LIMIT));
+        in->sizes[below(in->n)] = (uint32_t)(one_in(2) ? 0 : word_over(in->capacity));
     put_sweep_counts(in, one_in(25) ? another_length(in->n) : in->n, one_in(8));
     if (in->counts_length > 0 && one_in(20))
         in->counts[below(in->counts_length)] = 0;
@@ -983,7 +1186,7 @@ void largest_sweep(struct sweep_input *in, uint8_t family)
 /* The first p of the range has the limit as its scale. */
 void greatest_swept_sum(struct sweep_input *in, uint8_t family)
 {
-    static const uint64_t lows[] = {[1] = 1, [2] = 1, [3] = 2, [4] = 500000001, [5] = 1};
+    static const uint64_t lows[] = {[1] = 1, [2] = 1, [3] = 2, [4] = WINDOWFLOOR_LIMIT / 2 + 1, [5] = 1};
     in->capacity = LIMIT;
     in->family = family;
     in->low = lows[family];

@@ -4,6 +4,8 @@
 
 #include "windowfloor.h"
 
+enum { OLD_LIMIT = 1000000000 }; /* the limit of earlier releases */
+
 enum {
     ROOM_ENTRIES = WINDOWFLOOR_MOST_ENTRIES + 32,
     ROOM_SIZES = WINDOWFLOOR_MOST_SIZES + 32,
@@ -71,6 +73,7 @@ void largest_rows(struct job_input *in);
 void longest_chain(struct job_input *in, int counted); /* 2,048 sizes, eight family steps */
 void longest_chain_of_blocks(struct job_input *in);    /* counts too, and 64 blocks */
 void longest_chain_of_rows(struct job_input *in);
+void chain_at_limit(struct job_input *in, unsigned kind); /* 2,048 sizes, seven steps, all at the limit */
 void largest_sweep(struct sweep_input *in, uint8_t family);
 
 /* The greatest sums: 2,048 sizes with the greatest count and image; in so many blocks, or without tag 8

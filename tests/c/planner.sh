@@ -57,7 +57,9 @@ run_lists() {
     run 65536 40000 30000
     run 65537 40000 30000
     run 196607 131072 131072 65536 65536 65536
-    run 1000000000 600000000 600000000 400000001
+    run 1000000001 600000000 600000000 400000001
+    run 4000000000 2400000000 2400000000 1600000001
+    run 3999999999 2000000000 2147483648 2147483648
 }
 
 run_counted_lists() {
@@ -67,7 +69,7 @@ run_counted_lists() {
     run 100 51x2 34x3 26x4
     run 10 7x1 5x1
     run 10 3x65535 7x65535
-    run 1000000000 1000000000x65535 1000000000x65535 600000000x2
+    run 4000000000 4000000000x65535 4000000000x65535 2400000000x2
 }
 
 run_blocks() {
@@ -77,15 +79,17 @@ run_blocks() {
     run 10 7x1 / 5x1
     run 10 7x2 5 / 7 5x300 / 5
     run 100 51x2 34 26 / 34x2 / 26x3
-    run 1000000000 1000000000x65535 / 600000000x65535 600000000
+    run 4000000000 4000000000x65535 / 2400000000x65535 2400000000
 }
 
 run_refused() {
     run 10 11
     run 10 0
     run 0 1
-    run 1000000001 1
+    run 4000000001 1
+    run 4294967295 1
     run 99999999999 1
+    run 4000000000 4000000001
 }
 
 run_refused_counts() {
@@ -93,7 +97,7 @@ run_refused_counts() {
     run 10 5x2 5x0
     run 10 5x0 11
     run 10 0x10
-    run 1000000001 5x0
+    run 4000000001 5x0
 }
 
 run_refused_blocks() {
@@ -103,7 +107,7 @@ run_refused_blocks() {
     run 10 /
     run 10 7 / / 11
     run 10 7 / / 5x0
-    run 1000000001 5 /
+    run 4000000001 5 /
     run 99999999999 /
 }
 
@@ -195,7 +199,7 @@ run_refused_models() {
     run_rows "$here" planner_rows.txt 8 0 0
     run_rows "$here" planner_rows.txt 7 4 1
     run_rows "$here" planner_rows.txt 1 3 0 1 5 0
-    run_rows "$here" planner_rows.txt 2 100000000 0
+    run_rows "$here" planner_rows.txt 2 400000000 0
     run_rows_text no_rows.txt '\n' 1 3 0
     run_rows_text zero.txt '10 5\n0 5\n' 1 3 0
     run_rows_text over.txt '10 5\n4 4\n\n6 5 7\n'

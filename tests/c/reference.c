@@ -5,7 +5,7 @@
 /* 128 bits: no product of three numbers within the limit passes them. */
 __extension__ typedef unsigned __int128 wide;
 
-static const wide LIMIT = 1000000000;
+static const wide LIMIT = 4000000000;
 
 static wide up(wide a, wide b)
 {
@@ -180,6 +180,12 @@ struct windowfloor_image_answer reference_image(uint64_t capacity, uint8_t famil
     answer.image = (uint64_t)image_of(s, x);
     answer.scale = (uint64_t)scale_of(s);
     return answer;
+}
+
+uint64_t reference_scale(uint64_t capacity, uint8_t family, uint64_t p, uint64_t q)
+{
+    struct step s = {capacity, family, p, q};
+    return (uint64_t)scale_of(s);
 }
 
 /* Table check */

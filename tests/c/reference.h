@@ -29,6 +29,9 @@ struct windowfloor_sweep_answer reference_sweep(uint64_t capacity, uint8_t famil
 /* The tag of the field that a job is refused for with 13, 14 or 15; 0 if it is refused for none. */
 unsigned reference_refused_tag(const uint8_t *job, size_t bytes);
 
+/* The scale of a legal step, also where it is over the limit. */
+uint64_t reference_scale(uint64_t capacity, uint8_t family, uint64_t p, uint64_t q);
+
 /* best(0) to best(capacity) of a table. */
 void reference_bests(const uint32_t *table, size_t capacity, uint64_t *best);
 

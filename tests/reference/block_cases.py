@@ -5,16 +5,16 @@ import itertools
 import random
 
 import windowfloor as wf
+from edges import LIMIT, MAX
 from job_bytes import (
-    BAD_STEPS, blocked_job, blocks, blocks_of, counted_blocked_job, counted_fields, counted_job, counts, cut_short,
-    damaged, family, field, groups_at, halfwords, head, job, make, moved, other_lengths_at, other_tags_at, other_value,
-    random_groups, random_pairs, random_steps, row, rows_job, table, tables_of, word, written_out)
-from table_cases import FAMILY_STEPS, LIMIT, MAX, MOST_PLACES
+    BAD_STEPS, MOST_ONES, ONES, SAME, blocked_job, blocks, blocks_of, counted_blocked_job, counted_fields, counted_job,
+    counts, cut_short, damaged, family, field, groups_at, halfwords, head, job, make, moved, other_lengths_at,
+    other_tags_at, other_value, random_groups, random_pairs, random_steps, row, rows_job, table, tables_of, word,
+    written_out)
+from table_cases import FAMILY_STEPS, MOST_PLACES
 
 RANDOM = 24  # of each kind
 SIZES, MOST, MOST_COUNT = 2048, 64, 65_535  # the most sizes, blocks, and copies of a size
-ONES = 0x01010101  # its multiples up to 59 are under the limit, and their repeats are one run
-SAME = 59 * ONES
 IDENTITY = table(*range(11))
 TO_SIX = family(1, 4), family(3, 3)  # the images 6 of 7 and 3 of 5 at capacity 10
 TO_LIMIT = family(4, LIMIT // 2 + 1)  # of scale LIMIT at every capacity where it is legal
@@ -51,7 +51,7 @@ def numbers_of_blocks():
         yield counted_blocked_job(LIMIT, [[(SAME, 257)]] * count, family(1, LIMIT // 2))
         yield job(1, LIMIT, (SAME,) * 64, blocks(*[1] * count))
     for count, each in itertools.product((1, 2, 63, 64, 65), (2, 31)):
-        yield blocked_job(SAME, [[SAME] * (each - 1) + [(i % 59 + 1) * ONES] for i in range(count)])
+        yield blocked_job(SAME, [[SAME] * (each - 1) + [(i % MOST_ONES + 1) * ONES] for i in range(count)])
     for length in (65_516, 65_517, 65_518, 65_519):  # to the longest job and over it
         for byte in (0, 1):
             yield job(1, 10, (), field(8, bytes([byte]) * length))
@@ -331,7 +331,7 @@ def random_jobs():
 def random_levels(rng):
     """Many sizes in blocks; those of a block are equal, and counted by one number."""
     groups = random_groups(rng, range(rng.randint(MOST, SIZES)), MOST)
-    levels = [(rng.randint(1, 59) * ONES, rng.randint(1, 255) * 257) for _ in groups]
+    levels = [(rng.randint(1, MOST_ONES) * ONES, rng.randint(1, 255) * 257) for _ in groups]
     return [[level] * len(group) for level, group in zip(levels, groups)]
 
 

@@ -5,14 +5,15 @@ import itertools
 import random
 
 import windowfloor as wf
+from edges import LIMIT, MAX
 from job_bytes import (
-    BAD_STEPS, counted_fields, counted_job, counts, cut_short, damaged, family, field, head, job, leaving, make, moved,
-    other_lengths_at, other_tags_at, other_value, random_pairs, random_steps, row, table, tables_of, word, written_out)
-from table_cases import FAMILY_STEPS, LIMIT, MAX, MOST_PLACES
+    BAD_STEPS, SAME, counted_fields, counted_job, counts, cut_short, damaged, family, field, head, job, leaving, make,
+    moved, other_lengths_at, other_tags_at, other_value, random_pairs, random_steps, row, table, tables_of, word,
+    written_out)
+from table_cases import FAMILY_STEPS, MOST_PLACES
 
 RANDOM = 20  # of each kind
 SIZES, MOST_COUNT = 2048, 65_535
-SAME = 0x3B3B3B3B  # under the limit, and one run of bytes
 IDENTITY = table(*range(11))
 TO_LIMIT = family(4, LIMIT // 2 + 1)  # of scale LIMIT at every capacity where it is legal
 PLACE = 3  # of the counts among a job's fields

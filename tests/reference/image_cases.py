@@ -9,10 +9,11 @@ import sys
 sys.dont_write_bytecode = True
 import windowfloor as wf
 from case_files import lines, store_or_check
+from edges import AT_LIMIT, BEFORE, DOUBLED, EDGES, LIMIT, of_scale, parameters_about, scales_of
 
-TOTAL = 838
+TOTAL = 2000
+MOST_BYTES = 65_536  # of all cases
 FAMILIES = range(1, 8)
-LIMIT = 1_000_000_000
 MAX = 2**64 - 1
 
 # A legal (p, q) for capacity 10.
@@ -20,12 +21,12 @@ USUAL = {1: (3, 0), 2: (2, 0), 3: (3, 0), 4: (3, 0), 5: (4, 0), 6: (3, 2), 7: (3
 
 # (capacity, p, q) whose scale is the limit, and the next one above it.
 SCALE_AT_LIMIT = {
-    1: [(LIMIT, 7, 0)], 2: [(1000, 1_000_000, 0), (LIMIT, 1, 0)],
-    3: [(500_000_000, 1, 0), (LIMIT, 2, 0)], 4: [(LIMIT, 500_000_001, 0)],
-    5: [(LIMIT, 8, 0)], 6: [(3, 2, 499_999_999)], 7: [(3, 2, 999_999_999)]}
+    1: [(LIMIT, 7, 0)], 2: [(1000, LIMIT // 1000, 0), (LIMIT, 1, 0)],
+    3: [(LIMIT // 2, 1, 0), (LIMIT, 2, 0)], 4: [(LIMIT, LIMIT // 2 + 1, 0)],
+    5: [(LIMIT, 8, 0)], 6: [(3, 2, LIMIT // 2 - 1)], 7: [(3, 2, LIMIT - 1)]}
 SCALE_OVER_LIMIT = {
-    2: (1001, 999_001, 0), 3: (500_000_001, 1, 0), 4: (LIMIT, 500_000_002, 0),
-    6: (3, 2, 500_000_000), 7: (3, 2, LIMIT)}
+    2: (5969, 670_129, 0), 3: (LIMIT // 2 + 1, 1, 0), 4: (LIMIT, LIMIT // 2 + 2, 0),
+    6: (3, 2, LIMIT // 2), 7: (3, 2, LIMIT)}
 
 
 def reckoned():
@@ -78,14 +79,14 @@ def small():
 
 def limits():
     """One number at a limit or next to it, the others usual."""
-    capacities = (0, 1, 999_999_999, LIMIT, LIMIT + 1, 2**32, 2**32 + 10, MAX)
-    large = (LIMIT, LIMIT + 1, 2**32, 2**63, MAX)
+    capacities = (0, 1, BEFORE, BEFORE + 1) + EDGES + (2**32, 2**32 + 10, MAX)
+    large = EDGES + (2**32, 2**63, MAX)
     at_10 = (0, 1, 5, 6, 10, 11) + large
-    at_limit = (0, 1, LIMIT // 2, LIMIT // 2 + 1, LIMIT - 1) + large
+    at_limit = (0, 1, LIMIT // 2, LIMIT // 2 + 1) + large
     for family, (p, q) in USUAL.items():
         yield from ((value, family, p, q, value // 2) for value in capacities)
         yield from ((10, family, value, q, 7) for value in at_10)
-        few = (0, 1, LIMIT, MAX)  # only 0 is legal
+        few = (0, 1, MAX) + EDGES  # only 0 is legal
         yield from ((10, family, p, value, 7) for value in (few if family <= 5 else at_10))
         yield from ((LIMIT, family, value, q, LIMIT // 2 + 1) for value in at_limit)
         yield from ((10, family, p, q, value) for value in (0, 5, 9, 10, 11, 2**32, MAX))
@@ -133,14 +134,31 @@ def factors(number, divisor):
 def roundings():
     """Quotients that are rounded up, exact and beside it, from the least numbers to the greatest."""
     for capacity, p in ((10, 5), (10, 3), (12, 8), (1000, 640), (99_991, 4096), (LIMIT, 2), (LIMIT, 3),
-                        (LIMIT, 400_000_000), (LIMIT - 1, 500_000_000), (LIMIT, 500_000_001)):
+                        (LIMIT, LIMIT // 5 * 2), (LIMIT - 1, LIMIT // 2), (LIMIT, LIMIT // 2 + 1)):
         for y in factors(p, capacity):
             yield from ((capacity, 4, p, 0, x) for x in (y, capacity - y))
     for capacity, p, q in ((14, 6, 6), (13, 6, 7), (20, 12, 3), (1003, 99, 28), (1_000_003, 999, 400),
-                           (10**6, 700_001, 900), (LIMIT - 1, 600_000_000, 499_999_998), (LIMIT, 600_000_000, 3)):
+                           (10**6, 700_001, 900), (LIMIT - 1, LIMIT // 5 * 3, LIMIT // 2 - 2),
+                           (LIMIT, LIMIT // 5 * 3, 3)):
         r = capacity % p
         for b in factors(q, p - r):
             yield from ((capacity, family, p, q, x) for family in (6, 7) for x in (r + b, capacity - r - b))
+
+
+def finer_units():
+    """Request 7: capacities, parameters, scales and sizes at the limit, about it and over 32 bits doubled."""
+    for capacity in (1, 3, BEFORE + 1, 2**31, LIMIT - 1, LIMIT):
+        for family, p, q in parameters_about(capacity):
+            yield capacity, family, p, q, capacity // 2
+            if wf.family_refusal(capacity, family, p, q) == wf.ACCEPTED:
+                yield from ((capacity, family, p, q, x) for x in (capacity // 2 + 1, capacity) + DOUBLED)
+    for family, p, q in AT_LIMIT:
+        yield from ((capacity, family, p, q, x) for capacity in EDGES for x in EDGES)
+        for scale in scales_of(family):
+            capacity, *others = of_scale(family, scale)
+            yield from ((capacity, family, *others, x) for x in (0, 1, capacity - 1, capacity))
+        # the widest products, of scales
+        yield from ((LIMIT - 1, family, wide, q and LIMIT, 0) for wide in (2, 7, LIMIT - 2))
 
 
 def some_number(rng, digits):
@@ -154,7 +172,7 @@ def random_arbitrary(rng):
 
 def random_legal(rng, family):
     while True:
-        capacity, p = some_number(rng, 9), some_number(rng, 9)
+        capacity, p = some_number(rng, 10), some_number(rng, 10)
         q = 0 if family <= 5 else some_number(rng, 6)
         x = rng.randint(0, capacity)
         if wf.image(capacity, family, p, q, x)[0] == 0:
@@ -164,7 +182,7 @@ def random_legal(rng, family):
 def all_cases():
     """Each case once, in the order of its first making."""
     cases = {}
-    for part in (reckoned, small, limits, orders, scales, roundings, half_windows):
+    for part in (reckoned, small, limits, orders, scales, roundings, half_windows, finer_units):
         cases.update(dict.fromkeys(part()))
     rng = random.Random(20_000)
     while len(cases) < TOTAL:
@@ -176,7 +194,9 @@ def all_cases():
 
 def main():
     cases = all_cases()
-    return store_or_check("image_cases", lines(cases), lines(wf.image(*case) for case in cases))
+    stdin = lines(cases)
+    assert len(stdin) <= MOST_BYTES
+    return store_or_check("image_cases", stdin, lines(wf.image(*case) for case in cases))
 
 
 if __name__ == "__main__":

@@ -3,7 +3,11 @@
 import itertools
 
 import windowfloor as wf
-from table_cases import LIMIT, MAX
+from edges import LIMIT, MAX
+
+ONES = 0x01010101
+MOST_ONES = LIMIT // ONES  # its multiples up to this one are within the limit, and their repeats are one run of bytes
+SAME = MOST_ONES * ONES
 
 
 # Fields and whole jobs

@@ -12,7 +12,8 @@ case lies in two of the blocks of 65,536 bytes that the program reads: empty
 lines fill up a block.
 
 Here are the cases of kinds 1 and 2; row_cases.py has those of kind 3,
-count_cases.py those with counts and block_cases.py those with blocks."""
+count_cases.py those with counts, block_cases.py those with blocks and
+unit_cases.py those at the limit."""
 
 import itertools
 import random
@@ -23,16 +24,17 @@ import windowfloor as wf
 from block_cases import block_cases
 from case_files import in_blocks, lines, store_or_check
 from count_cases import count_cases
+from edges import LIMIT, MAX
 from job_bytes import (
-    BAD_STEPS, changed_value, counted_job, cut_short, damaged, family, field, head, job, last_only, leaving, make,
+    BAD_STEPS, SAME, changed_value, counted_job, cut_short, damaged, family, field, head, job, last_only, leaving, make,
     other_lengths, other_tags, random_steps, rows_job, table, tables_about_4)
 from row_cases import row_cases
-from table_cases import FAMILY_STEPS, LIMIT, MAX, MOST_PLACES, checksum
+from table_cases import FAMILY_STEPS, MOST_PLACES, checksum
+from unit_cases import unit_cases
 
 RANDOM = 600  # valid jobs, and as many damaged ones of each kind
 MOST_BYTES = 65_536
 SIZES, ENTRIES = 2048, 2048  # the most of one job and of one table
-SAME = 0x3B3B3B3B  # a size under the limit whose repeats are one run
 
 
 def good_fields(kind):
@@ -265,7 +267,7 @@ def all_cases():
     cases = {}
     for part in (reckoned, form, truncated, tag_orders, lengths, chains, bad_steps, other_capacities,
                  capacities, kinds, counts, roundings, buffers, longest, random_cases, row_cases,
-                 count_cases, first_halves, later_halves, chains_of_halves, block_cases):
+                 count_cases, first_halves, later_halves, chains_of_halves, block_cases, unit_cases):
         cases.update(dict.fromkeys(part()))
     return list(cases)
 

@@ -1,7 +1,7 @@
 """Runs the program target/bin/windowfloor on the jobs of examples/, whose
 output is stored there, on the jobs of the job cases and on longer input, and
 compares what it prints with the independent implementation. Exits with 1 if
-one differs."""
+one differs, or if no text is as long as a text can be."""
 
 import subprocess
 import sys
@@ -16,6 +16,7 @@ ROOT = Path(__file__).resolve().parents[2]
 PROGRAM = ROOT / "target/bin/windowfloor"
 EXAMPLES = ROOT / "examples"
 MOST_BYTES = 65_535
+MOST_TEXT = 24_064  # bytes of a text: 64 rows, and 2,048 coefficients in all, of numbers of ten digits
 
 
 def run(data):
@@ -93,8 +94,9 @@ def main():
         for case in part:
             cases += 1
             failed += differs(*case)
-    print(f"{cases} runs of the program, {failed} differ")
-    return 1 if failed else 0
+    longest = max(map(len, jobs.values()))
+    print(f"{cases} runs of the program, {failed} differ; the longest text has {longest} bytes")
+    return 1 if failed or longest != MOST_TEXT else 0
 
 
 if __name__ == "__main__":

@@ -5,14 +5,14 @@ import itertools
 import random
 
 import windowfloor as wf
+from edges import LIMIT, MAX
 from job_bytes import (
-    BAD_STEPS, changed_value, cut_short, damaged, family, field, head, job, last_only, lent, make, other_lengths,
+    BAD_STEPS, SAME, changed_value, cut_short, damaged, family, field, head, job, last_only, lent, make, other_lengths,
     other_tags, random_steps, row, rows_fields, rows_job, table, tables_about_4, words)
-from table_cases import FAMILY_STEPS, LIMIT, MAX, MOST_PLACES
+from table_cases import FAMILY_STEPS, MOST_PLACES
 
 RANDOM = 100  # of each kind
 MOST_ROWS, MOST_COEFFICIENTS = 64, 2048
-SAME = 0x3B3B3B3B  # under the limit, and one run of bytes
 KIND_3 = field(1, b"\3")
 IDENTITY = table(*range(11))
 TO_TEN = family(4, 6)  # has scale 10 at every capacity from 6 up

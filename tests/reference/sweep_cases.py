@@ -13,11 +13,11 @@ import sys
 sys.dont_write_bytecode = True
 import windowfloor as wf
 from case_files import lines, store_or_check
+from edges import BEFORE, DOUBLED, EDGES, LIMIT, MAX, parameters_about
 from job_bytes import apart, random_pairs
 
 RANDOM, RANDOM_COUNTS = 400, 150
-LIMIT = 1_000_000_000
-MAX, MAX_P = 2**32 - 1, 2**64 - 1
+MAX_P = 2**64 - 1
 SIZES, WIDEST = 2048, 4095  # the most sizes, and the most that high is above low
 MOST_COUNT = 65_535
 MOST_PLACES = 2100  # of a case's sizes, and of its counts
@@ -126,7 +126,7 @@ def limits():
                 yield of(capacity, family, low, low + 4, capacity, max(1, half), 1)
                 yield of(capacity, family, low, low + 4, half + 1, half + 1, half + 1)
             yield of(capacity, family, 0, 9, capacity + 1)
-        for capacity in (2, 3, 7, 1000, 31_623, 10**8):
+        for capacity in (2, 3, 7, 1000, 63_246, 10**8):
             edge = LIMIT // capacity
             yield of(capacity, family, max(0, edge - 3), edge + 3, capacity, capacity // 2 + 1, 1)
 
@@ -135,7 +135,7 @@ def counts():
     """The number of sizes at its limits, and sums over 32 bits."""
     for family, n in itertools.product(FAMILIES, (0, 1, 2, SIZES - 1, SIZES, SIZES + 1)):
         yield make(LIMIT, family, 1, 3, (n, LIMIT))
-        yield make(LIMIT, family, 2, 6, (n, 1, 400_000))
+        yield make(LIMIT, family, 2, 6, (n, 1, 1_900_000))
         yield make(60, family, 1, 31, (n, 31))
     for family in FAMILIES:
         yield make(1000, family, 0, WIDEST, (100, 500, 5))
@@ -191,6 +191,20 @@ def half_windows():
         yield of(capacity, 1, last, last)
     yield of(5, 1, 3, 3, 2, 3)
     yield make(4095, 1, 0, WIDEST, (SIZES, 2048), counts=[(SIZES, 1, 3)])
+
+
+def finer_units():
+    """Request 7: ranges about each p of interest at large capacities, and where p doubled passes 32 bits."""
+    for capacity in (BEFORE + 1, 2**31) + EDGES:
+        half = capacity // 2
+        for family, p, q in parameters_about(capacity):
+            if q == 0 and family in FAMILIES:
+                low = max(0, p - 2)
+                yield of(capacity, family, low, low + 4, half + 1, half + 1, capacity)
+                yield counted(capacity, family, low, low + 4, (half, 3), (capacity // 3, 300), (capacity - 1, 2))
+    for family, p in itertools.product(FAMILIES, EDGES + DOUBLED):
+        yield of(10, family, p - 2, p + 2, 6, 6, 6)
+        yield of(1, family, p - 2, p + 2, 1)
 
 
 def random_range(rng):
@@ -344,7 +358,8 @@ def all_cases():
     cases = {}
     for part in (reckoned, form, faults, ranges, last_alone, limits, counts, ties, roundings, random_cases,
                  faults_of_counts, reckoned_counts, form_of_counts, numbers_of_both, zeros, limits_of_counts,
-                 largest_sums, neighbours, decided_by_counts, roundings_of_counts, random_counts, half_windows):
+                 largest_sums, neighbours, decided_by_counts, roundings_of_counts, random_counts, half_windows,
+                 finer_units):
         cases.update(dict.fromkeys(part()))
     return list(cases)
 

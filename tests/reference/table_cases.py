@@ -14,10 +14,9 @@ import sys
 sys.dont_write_bytecode = True
 import windowfloor as wf
 from case_files import lines, store_or_check
+from edges import BEFORE, EDGES, LIMIT, MAX
 
 RANDOM = 150
-LIMIT = 1_000_000_000
-MAX = 2**32 - 1
 MOST_PLACES = 2100
 LARGEST = 2048  # entries of the largest table
 
@@ -67,8 +66,8 @@ def buffers():
 
 
 def limits():
-    """Entries at the limit, one over it and far over it."""
-    for value in (LIMIT, LIMIT + 1, MAX):
+    """Entries at the limit, one below, one over it and far over it; and one over the limit before request 7."""
+    for value in EDGES + (BEFORE + 1,):
         yield of(value, 0, 0, 0, 1)
         yield of(0, value, 0, 0, 1)
         yield of(0, 0, value, 0, LIMIT)

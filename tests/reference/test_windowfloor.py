@@ -12,7 +12,7 @@ from job_bytes import (
     apart, bad_tables, blocked_job, blocks, counted_blocked_job, counted_job, counts, family as family_step, field,
     job as make_job, random_groups, random_pairs, row, rows_job, table as table_step, together, word, written_out)
 
-LIMIT = 1_000_000_000
+LIMIT = 4_000_000_000
 MARK = 77  # fills places that have to stay
 PLACES = 2050  # of the buffers of images, working numbers and lists
 SHORTER = [MARK] * 66  # the buffers of scales and of block floors, with nothing written
@@ -139,6 +139,31 @@ class Reckoning(unittest.TestCase):
         self.assertEqual(wf.image(6, 1, 4, 0, 3), (3, 0, 0))
         self.assertEqual(wf.image(5, 1, 4, 0, 3), (3, 0, 0))
 
+    def test_finer_units(self):
+        """02, ticket 7: numbers up to 4,000,000,000, and their doubles."""
+        fourth = 1_000_000_000
+        for case, expected in [
+                ((4 * fourth, 1, 2 * fourth, 0, 2 * fourth + 1), (0, 4 * fourth, 4 * fourth)),
+                ((4 * fourth + 1, 1, 0, 0, 7), (1, 0, 0)), ((2**32 - 1, 1, 0, 0, 7), (1, 0, 0)),
+                ((10, 1, 2**31 + 2, 0, 7), (3, 0, 0)), ((10, 3, 2**31 + 2, 0, 7), (3, 0, 0)),
+                ((4 * fourth, 1, 2**31, 0, 7), (3, 0, 0)), ((4 * fourth, 2, 2, 0, 7), (4, 0, 0)),
+                ((4 * fourth - 1, 1, 2 * fourth, 0, 7), (0, 0, 4 * fourth - 1)),
+                ((4 * fourth, 2, 1, 0, 3 * fourth), (0, 4 * fourth, 4 * fourth)),
+                ((1, 2, 4 * fourth, 0, 1), (0, 4 * fourth, 4 * fourth)), ((1, 2, 4 * fourth + 1, 0, 1), (3, 0, 0)),
+                ((4 * fourth, 3, 2, 0, 2**31), (0, 2**31, 4 * fourth)), ((4 * fourth, 3, 1, 0, 7), (4, 0, 0)),
+                ((4 * fourth, 4, 2 * fourth + 1, 0, 1), (0, 0, 4 * fourth)),
+                ((4 * fourth, 4, 2 * fourth + 2, 0, 1), (4, 0, 0)),
+                ((4 * fourth, 5, 3 * fourth, 0, 3 * fourth + 5), (0, 2 * fourth, 2 * fourth)),
+                ((4 * fourth, 6, 3 * fourth, 2 * fourth - 1, 2 * fourth), (0, 2 * fourth, 4 * fourth)),
+                ((4 * fourth, 6, 3 * fourth, 2 * fourth, 7), (4, 0, 0)),
+                ((3, 7, 2, 4 * fourth - 1, 3), (0, 4 * fourth, 4 * fourth)), ((3, 7, 2, 4 * fourth, 3), (4, 0, 0)),
+                ((3, 7, 2, 4 * fourth + 1, 3), (3, 0, 0))]:
+            with self.subTest(case=case):
+                self.assertEqual(wf.image(*case), expected)
+        for entries, number in (((0, 4 * fourth), 0), ((0, 4 * fourth + 1), 10), ((0, 2 * fourth, 4 * fourth), 0),
+                                ((0, 2 * fourth + 1, 4 * fourth), 11)):
+            self.assertEqual(wf.table_check(entries, [0] * 3, [0] * 2)[0], number)
+
     def test_family_2(self):
         self.images(10, 2, 2, 0, 20, {3: 0, 4: 10, 7: 20})
         self.images(9, 2, 2, 0, 18, {3: 6, 4: 9})
@@ -249,8 +274,8 @@ class Families(unittest.TestCase):
                 ((10, 0, over, 0, 99), 2), ((10, 8, 0, over, 99), 2), ((10, 255, 0, 0, 0), 2),
                 ((10, 2, over, 0, 99), 3), ((10, 6, 0, 0, 99), 3), ((10, 7, 3, over, 99), 3),
                 ((10, 2, LIMIT, 0, 99), 4), ((LIMIT, 3, 1, 0, over), 4),
-                ((3, 6, 2, 500_000_000, 4), 4), ((3, 7, 2, LIMIT, 4), 4),
-                ((10, 1, 3, 0, 11), 5), ((3, 7, 2, 999_999_999, 4), 5)]:
+                ((3, 6, 2, LIMIT // 2, 4), 4), ((3, 7, 2, LIMIT, 4), 4),
+                ((10, 1, 3, 0, 11), 5), ((3, 7, 2, LIMIT - 1, 4), 5)]:
             with self.subTest(case=case):
                 self.assertEqual(wf.image(*case), (number, 0, 0))
 

@@ -1,13 +1,13 @@
 """Reference for the operations of the scope document ("01") with the change
 requests for many rows, for tables of another capacity, for counts of identical
-sizes, for half of an odd window and for blocks ("02", tickets 1, 2, 4, 5 and 6),
-written for clarity. Comments name the section of 01, or the ticket of 02, that a
-function follows."""
+sizes, for half of an odd window, for blocks and for finer units ("02", tickets 1,
+2, 4, 5, 6 and 7), written for clarity. Numbers may be of any size. Comments name
+the section of 01, or the ticket of 02, that a function follows."""
 
 import sys
 from functools import lru_cache
 
-LIMIT = 1_000_000_000  # capacities, parameters, scales and table entries
+LIMIT = 4_000_000_000  # capacities, parameters, scales and table entries (02, ticket 7)
 
 # Refusal numbers (01, Operations and what they refuse; 02, tickets 1, 4 and 6).
 ACCEPTED = 0

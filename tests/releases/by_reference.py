@@ -8,10 +8,16 @@ sys.path.insert(0, str(Path(__file__).resolve().parents[1] / "reference"))
 import windowfloor as wf
 
 NARROW, WIDE = 4_294_000_000, 2**63  # what place 0 of a buffer holds before the call
+JOB_PLACES = dict(images=2048, working=2048, list=2047, scales=64, blocks=64)  # at least
+
+
+def places_of(given, name, least):
+    """As many as the case gives."""
+    return range(given.get(name + "_places", least))
 
 
 def lend(given, name, least, start=NARROW):
-    return [start + i for i in range(given.get(name + "_places", least))]
+    return [start + i for i in places_of(given, name, least)]
 
 
 def changed(places, start=NARROW):
@@ -34,9 +40,8 @@ def table(given):
 
 
 def lent(given):
-    """The buffers of a job: images, working, list, scales and blocks."""
-    return (lend(given, "images", 2048), lend(given, "working", 2048, WIDE), lend(given, "list", 2047),
-            lend(given, "scales", 64), lend(given, "blocks", 64))
+    """The buffers of a job, in the order of their names above."""
+    return [lend(given, name, least, WIDE if name == "working" else NARROW) for name, least in JOB_PLACES.items()]
 
 
 def job(given):

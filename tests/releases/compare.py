@@ -3,9 +3,10 @@ releases: python3 tests/releases/compare.py
 
 Every field and every place of every buffer that a stored answer has must be the
 same today, and what requests have added to the answer since then must have its
-neutral value, but for the rules in exceptions.py. Exits with 1 if an answer
-differs, if a file of cases is missing, empty or not as long as the list of
-releases says, and if a rule is about no stored case."""
+neutral value, but for the rules in exceptions.py. What an answer must be under a
+rule, by the independent implementation, the C reference must say too. Exits with 1
+if an answer differs, if a file of cases is missing, empty or not as long as the
+list of releases says, and if a rule is about no stored case."""
 
 import sys
 from collections import Counter
@@ -59,7 +60,7 @@ def expected(case, rules):
     return answer
 
 
-def difference(case, answer, due):
+def difference(case, answer, due, who="today"):
     """The words of a difference; empty if there is none."""
     names = [name for name in due if name not in answer or answer[name] != due[name]]
     if not names:
@@ -67,8 +68,16 @@ def difference(case, answer, due):
     words = [f"differs: {case.release}/{case.operation}.txt, line {case.line}: {', '.join(names)}",
              "  given  " + pack(case.given, False),
              "  due    " + pack({name: due[name] for name in names}, True),
-             "  today  " + pack({name: answer[name] for name in names if name in answer}, True)]
+             f"  {who}  " + pack({name: answer[name] for name in names if name in answer}, True)]
     return "\n".join(word if len(word) <= 400 else word[:400] + " ..." for word in words)
+
+
+def differences_of_c(operation, ruled):
+    """Where the C reference differs from what is due under a rule. It prints no text."""
+    if operation == "text":
+        return []
+    answers = today.by_c_reference(operation, [case.given for case, _ in ruled])
+    return [difference(case, answer, due, "C") for (case, due), answer in zip(ruled, answers)]
 
 
 def compare(folder, exceptions):
@@ -77,12 +86,15 @@ def compare(folder, exceptions):
     releases = list(dict.fromkeys(release for release, _ in cases))
     compared, excepted = Counter(), Counter()
     for (release, operation), stored in cases.items():
+        ruled = []
         for case, answer in zip(stored, today.answers(operation, [case.given for case in stored])):
             rules = dict(rules_for(case, exceptions, releases))
             excepted.update(list(rules))
             due = expected(case, rules.values())
             compared[release] += bool(due)
+            ruled += [(case, due)] * bool(rules)
             wrong += filter(None, [difference(case, answer, due)])
+        wrong += filter(None, differences_of_c(operation, ruled))
     for release in releases:
         print(f"{release}: {compared[release]} cases compared")
     for number, rule in enumerate(exceptions):

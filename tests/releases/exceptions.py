@@ -43,8 +43,9 @@ def fourth_byte_3(given):
 
 
 def is_read(given):
-    """Neither 12 nor 7 is told."""
-    return wf.early_job_refusal(given["job"], *by_reference.lent(given)) == wf.ACCEPTED
+    """Neither 12 nor 7 is told. Of the buffers their lengths count alone."""
+    places = (by_reference.places_of(given, name, least) for name, least in by_reference.JOB_PLACES.items())
+    return wf.early_job_refusal(given["job"], *places) == wf.ACCEPTED
 
 
 def lists_of(kind, fields):
@@ -54,8 +55,9 @@ def lists_of(kind, fields):
     return [(wf.number_of(fields[1][1]), wf.sizes_of(fields), wf.counts_of(fields), wf.blocks_of(fields))]
 
 
-def up_to_the_steps(given):
-    """Capacity and steps of the list, or of each row, as far as all that is asked before the steps is in order."""
+def judged_lists(given):
+    """Capacity and steps of the list, or of each row, with the number that the list has before the steps: none if
+    that is told which comes before the lists."""
     if not is_read(given):
         return
     number, fields = wf.read_fields(given["job"])
@@ -64,10 +66,16 @@ def up_to_the_steps(given):
     kind = wf.kind_of(fields)
     if kind not in (wf.FLOOR, wf.CUT, wf.ROWS) or (kind == wf.ROWS and wf.rows_refused(wf.rows_of(fields))):
         return
-    for capacity, sizes, counts, blocks in lists_of(kind, fields):
-        if wf.list_refusal(kind, capacity, sizes, counts, blocks) != wf.ACCEPTED:
+    for capacity, *numbers in lists_of(kind, fields):
+        yield capacity, wf.steps_of(fields), wf.list_refusal(kind, capacity, *numbers)
+
+
+def up_to_the_steps(given):
+    """Capacity and steps of the list, or of each row, as far as all that is asked before the steps is in order."""
+    for capacity, steps, number in judged_lists(given):
+        if number != wf.ACCEPTED:
             return
-        yield capacity, wf.steps_of(fields)
+        yield capacity, steps
 
 
 def steps_taken(capacity, steps):
@@ -154,6 +162,77 @@ def job_with_a_half(given):
     return False
 
 
+BEFORE = 1_000_000_000  # the limit that request 7 raises
+
+
+def is_raised(number):
+    """Over the old limit and not over the new one."""
+    return BEFORE < number <= wf.LIMIT
+
+
+def was_refused(capacity, family, p, q):
+    """A family step, at a capacity within the old limit, that was refused with 3 for p or q over that limit, or with
+    4 for its scale."""
+    if not 1 <= family <= 7:
+        return False
+    if is_raised(max(p, q)):
+        return True
+    return wf.legal(capacity, family, p, q) and is_raised(wf.family_scale(capacity, family, p, q))
+
+
+def image_over_the_old_limit(given):
+    capacity, family, p, q = (given[name] for name in ("capacity", "family", "p", "q"))
+    return is_raised(capacity) or (not wf.capacity_refused(capacity) and was_refused(capacity, family, p, q))
+
+
+def entries_over_the_old_limit(entries):
+    """Neither 8 nor 9 is told, and the greatest entry is over the old limit."""
+    return entries[0] == 0 and entries[-1] != 0 and is_raised(max(entries))
+
+
+def table_over_the_old_limit(given):
+    """Neither 6 nor 7 is told, and 10 was."""
+    entries = given["entries"]
+    working, listed = given.get("working_places", len(entries)), given.get("list_places", len(entries) - 1)
+    return (2 <= len(entries) <= wf.MOST_ENTRIES and working >= len(entries) and listed >= len(entries) - 1
+            and entries_over_the_old_limit(entries))
+
+
+def sweep_over_the_old_limit(given):
+    """The capacity was refused with 1; or nothing is wrong before the p are tried, and one that passes was refused."""
+    counts = given.get("counts", [1] * len(given["sizes"]))
+    capacity, family, low, high = (given[name] for name in ("capacity", "family", "low", "high"))
+    if is_raised(capacity):
+        return True
+    if wf.sweep_refusal(capacity, family, given["sizes"], counts, low, high) != wf.ACCEPTED:
+        return False
+    return any(was_refused(capacity, family, p, 0) and wf.family_refusal(capacity, family, p, 0) == wf.ACCEPTED
+               for p in range(low, high + 1))
+
+
+def step_over_the_old_limit(capacity, step):
+    """Of a table its entries alone: before request 2 they came before its capacity."""
+    tag, value = step
+    if tag == wf.TABLE_STEP:
+        return entries_over_the_old_limit(wf.numbers_of(value))
+    return was_refused(capacity, value[0], wf.number_of(value[1:5]), wf.number_of(value[5:9]))
+
+
+def job_over_the_old_limit(given):
+    """A capacity or a right side that is reached was refused with 1, or a step that is reached with 3, 4 or 10."""
+    for capacity, steps, number in judged_lists(given):
+        if is_raised(capacity):
+            return True
+        if number != wf.ACCEPTED:
+            return False
+        taken = list(steps_taken(capacity, steps))
+        if any(step_over_the_old_limit(present, step) for present, step, _ in taken):
+            return True
+        if any(number != wf.ACCEPTED for _, _, number in taken):
+            return False
+    return False
+
+
 EXCEPTIONS = [
     Rule(1, ("job",), of_kind_3, "kind 3 is read by another grammar, as rows", now=by_reference.answer),
     Rule(1, ("text",), fourth_byte_3, "a refusal prints the row too if the job's fourth byte is 3; no job with that "
@@ -170,4 +249,12 @@ EXCEPTIONS = [
          "may go", now=by_reference.answer),
     Rule(6, ("job", "text"), blocks_behind_the_list, "a tag 8 that ends the list part, right after tag 3 or tag 7, "
          "where the kind byte is 1 was out of place, 14, and is now read", now=by_reference.answer),
+    Rule(7, ("image",), image_over_the_old_limit, "a capacity, p, q or scale up to 4,000,000,000 was over the limit: "
+         "1, 3 and 4 begin at higher values", now=by_reference.answer),
+    Rule(7, ("table",), table_over_the_old_limit, "an entry up to 4,000,000,000 was over the limit: 10 begins at a "
+         "higher value", now=by_reference.answer),
+    Rule(7, ("job", "text"), job_over_the_old_limit, "a capacity, right side, p, q, scale or entry that is reached, up "
+         "to 4,000,000,000, was over the limit: 1, 3, 4 and 10 begin at higher values", now=by_reference.answer),
+    Rule(7, ("sweep",), sweep_over_the_old_limit, "a sweep reaches a capacity or parameters formerly refused for the "
+         "limit", now=by_reference.answer),
 ]

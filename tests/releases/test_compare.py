@@ -9,15 +9,19 @@ import sys
 import tempfile
 import unittest
 from pathlib import Path
+from unittest import mock
 
 sys.dont_write_bytecode = True
 import by_reference
+import today
+from by_reference import wf
 from compare import compare
-from exceptions import EXCEPTIONS, Rule
-from inputs_base import IDENTITY, LIMIT, family, field, halves, head, image, job, row, tabled
+from exceptions import BEFORE, EXCEPTIONS, Rule
+from inputs_base import IDENTITY, family, field, halves, head, image, job, row, tabled
 from inputs_request_1 import KIND_3, model
 from stored import LIST, pack_bytes, pack_numbers, unpack, unpack_bytes, unpack_numbers
 
+LIMIT = wf.LIMIT
 IMAGE = "capacity=10 family=1 p=3 q=0 x=8 -> number=0 image=10 scale=10"
 TABLE = "entries=0,1,1,2 working_places=6 -> number=11 length=3 working=0:0,1,2,3 list=0:1,1,1"
 JOB = ("job=01000101.0200040000000a.03000400000006 -> "
@@ -42,6 +46,14 @@ HALVES = dict(  # answers that request 5 changes
     text="job=01000101.02000400000005.03000400000003.040009010000000300000000 -> "
          "status=0 errors=0 text='refused 3 1\\n'",
     sweep="capacity=5 family=1 sizes=3*2 low=3 high=3 -> number=20 floor=0 p=0")
+OLD_LIMIT = dict(  # answers that request 7 changes
+    image="capacity=1000000001 family=1 p=0 q=0 x=7 -> number=1 image=0 scale=0",
+    table="entries=0,1000000001 -> number=10 length=0 working=same list=same",
+    job="job=01000101.02000477359400.03000477359400 -> "
+        "number=1 n=0 floor=0 sum=0 scale=0 step=0 length=0 row=0 total=0 images=same list=same scales=same "
+        "blocks=same",
+    text="job=01000101.02000477359400.03000477359400 -> status=0 errors=0 text='refused 1 0\\n'",
+    sweep="capacity=10 family=2 sizes=6*3 low=100000001 high=100000001 -> number=20 floor=0 p=0")
 SWEEP = "capacity=10 family=1 sizes=6*3 low=0 high=5 -> number=0 floor=3 p=5"
 TEXT = "job= -> status=0 errors=0 text='refused 14 0\\n'"
 CASES = dict(image=IMAGE, table=TABLE, job=JOB, sweep=SWEEP, text=TEXT)
@@ -184,6 +196,15 @@ class Comparison(unittest.TestCase):
             rule = Rule(2, ("image",), always, "all", now=lambda operation, given: dict(number=0, image=now))
             self.assertEqual(passes(wrong, [rule])[0], right)
 
+    def test_what_the_c_reference_says(self):
+        """It is asked where a rule says what the answer is instead, and nowhere else."""
+        rule = Rule(2, ("image",), always, "all", now=by_reference.answer)
+        wrong = dict(number=0, image=9, scale=10)
+        with mock.patch.object(today, "by_c_reference", lambda operation, inputs: [wrong for _ in inputs]):
+            self.assert_fails("  C  image=9", dict(image=IMAGE), [rule])
+            self.assert_passes("1 cases compared", dict(image=IMAGE))
+        self.assert_passes("request 2: 1 cases", dict(image=IMAGE), [rule])
+
     def test_a_rule_is_about_earlier_releases(self):
         rule = Rule(2, ("image",), always, "all images")
         changed = dict(image=IMAGE.replace("image=10", "image=8"))
@@ -214,6 +235,13 @@ class Comparison(unittest.TestCase):
         changed = dict(job="number, n, floor, sum, scale, images, total, blocks", text="text")
         for operation, line in OUT_OF_PLACE.items():
             self.assert_changed(6, operation, line, changed[operation])
+
+
+    def test_numbers_over_the_old_limit(self):
+        changed = dict(image="number, image, scale", table="number, working", text="text", sweep="number, floor, p",
+                       job="number, n, floor, sum, scale, total, images")
+        for operation, line in OLD_LIMIT.items():
+            self.assert_changed(7, operation, line, changed[operation])
 
 
 class Exceptions(unittest.TestCase):
@@ -400,6 +428,68 @@ class Exceptions(unittest.TestCase):
                 6, False, b"".join(before + [blocks, part] + behind), b"".join(before + [blocks] + behind + [blocks]),
                 b"".join(before + behind + [blocks]), b"".join(before + [longer] + behind + [blocks]))
         self.assert_not_with_short_buffers(6, data)
+
+
+    def test_request_7_images(self):
+        """A capacity, p, q or scale between the limits, and nothing else is told before it."""
+        over = LIMIT + 1
+        for capacity, family_byte, p, q, applies in (
+                (BEFORE + 1, 1, 0, 0, True), (LIMIT, 8, over, over, True), (10, 2, BEFORE + 1, 0, True),
+                (10, 1, LIMIT, 0, True), (10, 6, 3, BEFORE + 1, True), (10, 1, 3, LIMIT, True),
+                (BEFORE, 2, 2, 0, True), (3, 7, 2, BEFORE, True), (BEFORE // 2 + 1, 3, 1, 0, True),
+                (BEFORE, 1, 0, 0, False), (over, 1, BEFORE + 1, 0, False), (0, 1, BEFORE + 1, 0, False),
+                (10, 8, BEFORE + 1, 0, False), (10, 2, over, 0, False), (10, 2, BEFORE + 1, over, False),
+                (10, 2, LIMIT // 10 + 1, 0, False), (10, 2, BEFORE // 10, 0, False), (3, 7, 2, BEFORE - 1, False)):
+            given = image(capacity, family_byte, p, q, 0)
+            self.assertEqual(self.applies(7, "image", given), applies, given)
+
+    def test_request_7_tables(self):
+        for entries, applies in (
+                ((0, BEFORE + 1), True), ((0, LIMIT), True), ((0, BEFORE + 1, 1), True), ((0, BEFORE), False),
+                ((0, LIMIT + 1), False), ((0, BEFORE + 1, LIMIT + 1), False), ((1, BEFORE + 1), False),
+                ((0, BEFORE + 1, 0), False), ((BEFORE + 1,), False), ((0,) * 2048 + (BEFORE + 1,), False)):
+            self.assertEqual(self.applies(7, "table", dict(entries=list(entries))), applies, entries[:3])
+        for places in (dict(working_places=1), dict(list_places=0)):
+            self.assertFalse(self.applies(7, "table", dict(entries=[0, BEFORE + 1], **places)))
+
+    def test_request_7_sweeps(self):
+        """A capacity between the limits, or a p that passes and was refused."""
+        fine = dict(capacity=10, family=2, sizes=[6], low=1, high=3)
+        last = BEFORE // 10
+        for more in (dict(capacity=BEFORE + 1), dict(capacity=LIMIT, family=9, sizes=[0], high=0),
+                     dict(low=last, high=last + 1), dict(low=last + 1, high=last + 9),
+                     dict(capacity=1, sizes=[1], low=LIMIT, high=LIMIT), dict(family=3, capacity=BEFORE, high=1)):
+            self.assertTrue(self.applies(7, "sweep", fine | more), more)
+        for more in (dict(), dict(low=last - 9, high=last), dict(low=LIMIT // 10 + 1, high=LIMIT // 10 + 1),
+                     dict(capacity=LIMIT + 1), dict(low=BEFORE + 1, high=BEFORE + 1, family=1),
+                     dict(low=last + 2, high=last + 1), dict(low=last, high=last + 1, sizes=[0]),
+                     dict(low=last, high=last + 1, counts=[0])):
+            self.assertFalse(self.applies(7, "sweep", fine | more), more)
+
+    def test_request_7_applies(self):
+        """A number between the limits that is reached, whatever stands beside it and behind it."""
+        wide, over = tabled(0, BEFORE + 1), BEFORE + 1
+        self.assert_excepted(
+            7, True, job(1, over, (3,)), job(2, LIMIT, (LIMIT + 1,)), job(1, over, (0,), family(8, 1)),
+            job(1, 10, (3,), family(2, over)), job(1, 10, (3,), family(1, 3, over)),
+            job(2, 10, (0,), family(2, over // 10 + 1)), job(1, 1, (1,), wide), job(1, 10, (3,), wide),
+            job(1, 10, (3,), IDENTITY, family(2, LIMIT)), job(1, 1, (1,), wide, family(8, 1)),
+            job(1, 10, (3,), halves(7, 300), halves(8, 1), family(2, LIMIT)),
+            model([(over, 3)]), model([(10, 3), (over, 3), (0,)]), model([(10,), (0,)], family(2, over)),
+            model([(10, 3), (BEFORE // 2, 3)], family(2, 3)))
+
+    def test_request_7_does_not_apply(self):
+        """Numbers within the old limit or over both, and what is behind something that is refused."""
+        over, data = BEFORE + 1, job(1, BEFORE + 1, (3,))
+        self.assert_excepted(
+            7, False, b"", job(1, BEFORE, (BEFORE,)), job(1, LIMIT + 1, (3,)), job(1, 10, (over,), family(2, over)),
+            job(4, over, (3,)), job(1, 10, (3,), family(8, over)), job(1, 10, (3,), family(2, LIMIT + 1)),
+            job(1, 10, (3,), family(8, 1), family(2, over)), job(1, 10, (3,), halves(7, 0), family(2, over)),
+            job(1, 10, (3,), halves(8, 2), family(2, over)), job(1, 1, (1,), tabled(1, over)),
+            job(1, 1, (1,), tabled(0, LIMIT + 1)), job(1, 2, (1,), tabled(0, over, 0)), data[:-1], data + b"\4",
+            data + bytes(65_536), KIND_3 + family(2, over), model([(10, 11), (over,)]), model([(0,), (over,)]),
+            model([(10,), (over,)], family(8, 1)), model([(over,)] * 65))
+        self.assert_not_with_short_buffers(7, data)
 
 
 class StoredForm(unittest.TestCase):

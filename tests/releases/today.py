@@ -1,4 +1,5 @@
-"""The answers of today's library and program, in the names of the stored form."""
+"""The answers of today's library and program, and of the C reference, in the names
+of the stored form."""
 
 import subprocess
 from concurrent.futures import ThreadPoolExecutor
@@ -8,6 +9,7 @@ from stored import BYTES, LISTS, unpack
 
 ROOT = Path(__file__).resolve().parents[2]
 LIBRARY = ROOT / "target/releases-answers"
+C_REFERENCE = ROOT / "target/releases-reference"
 PROGRAM = ROOT / "target/bin/windowfloor"
 
 
@@ -23,9 +25,9 @@ def plain(operation, given):
     return " ".join(words) + "\n"
 
 
-def library(operation, inputs):
+def library(operation, inputs, driver=LIBRARY):
     text = "".join(plain(operation, given) for given in inputs)
-    done = subprocess.run([LIBRARY], input=text, stdout=subprocess.PIPE, text=True, check=True)
+    done = subprocess.run([driver], input=text, stdout=subprocess.PIPE, text=True, check=True)
     answers = [unpack(line, True) for line in done.stdout.splitlines()]
     assert len(answers) == len(inputs)
     return answers
@@ -39,6 +41,11 @@ def printed(given):
 def program(inputs):
     with ThreadPoolExecutor(2) as pool:
         return list(pool.map(printed, inputs))
+
+
+def by_c_reference(operation, inputs):
+    """The same by the C reference, which prints no text."""
+    return library(operation, inputs, C_REFERENCE)
 
 
 def answers(operation, inputs):

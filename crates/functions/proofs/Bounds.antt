@@ -13,3 +13,13 @@ pub whole-most : (p r x : ℕ) → x / p * (p - r) + x % p ≤ x
 whole-most p r x =
     let gap : p - r ≤ p = omega arith in
     omega (arith, mul-le-mul-left (x / p) gap, div-add-mod' x p)
+
+-- each of them q + 1 times, with b of the remainder: it is the sum that is bounded
+pub whole-times-most : (p q r x b : ℕ) → x ≤ limit → q ≤ limit → b ≤ x % p → x / p * (p - r) * (q + 1) + b * (q + 1) ≤ (limit + 1) * (limit + 1)
+whole-times-most p q r x b hx hq hb =
+    omega (arith, product-most (x / p * (p - r) + b) (q + 1) (omega (arith, whole-most p r x)) (omega arith))
+
+-- twice q + 1 for each whole p of x: where p is over 1 that is within q + 1 times x
+pub twice-most : (p q x : ℕ) → 2 ≤ p → x ≤ limit → q ≤ limit → 2 * ((q + 1) * (x / p)) ≤ (limit + 1) * (limit + 1)
+twice-most p q x hp hx hq =
+    omega (arith, product-most (q + 1) (2 * (x / p)) (omega arith) (omega (arith, mul-le-mul-left (x / p) hp, div-add-mod' x p)))

@@ -2,12 +2,12 @@
 use mathlib.Core.Path.{_≡_, ap, _∙_}
 use mathlib.Core.Logic.{_⊎_, ⊎-elim}
 use Prim.Native.Nat.{ℕ, _+_, _-_, _*_, _/_, _%_, _≤_, _<_}
-use native.Mathlib.Nat.{mul-le-mul-right, mod-lt, div-le-self, le-refl}
+use native.Mathlib.Nat.{mul-le-mul-right, mod-lt, div-le-self, le-refl, eq-zero-or-pos}
 use native.Mathlib.Omega.{arith}
 use borrow.Author.Tests.{lt-ltb, le-ltb}
 use Rattle.functions.specs.Words.{limit}
 use Rattle.functions.specs.Families.{burdettJohnson, letchfordLodi, theta, _up_}
-use Rattle.functions.proofs.Bounds.{product-most}
+use Rattle.functions.proofs.Bounds.{product-most, twice-most}
 use Rattle.functions.proofs.Cases.{lt-or-ge}
 use Rattle.functions.proofs.Superadditive.{Superadditive}
 use Rattle.functions.proofs.Quotient.{by-quotient-and-remainder, up-least, up-monotone, up-zero, up-sum, up-whole}
@@ -69,6 +69,14 @@ module _ (p q r : ℕ) (less : r < p) where
       omega (arith, letchfordLodi-is x, product-most (q + 1) (x / p) (omega arith) (omega (arith, div-le-self x p)), theta-most (x % p) (mod-lt x (omega arith)))
 
   module _ (enough : p - r ≤ q * r) where
+    -- some remainder is left, so p is over 1
+    p-least : 2 ≤ p
+    p-least = ⊎-elim (λ none. absurd (omega (arith, ap (λ (n : ℕ). q * n) none))) (λ some. omega arith) (eq-zero-or-pos r)
+
+    pub letchfordLodi-twice : (x : ℕ) → x ≤ limit → q ≤ limit → 2 * letchfordLodi p q r x ≤ (limit + 1) * (limit + 1) + 2 * limit
+    letchfordLodi-twice x hx hq =
+        omega (arith, letchfordLodi-is x, twice-most p q x p-least hx hq, theta-most (x % p) (mod-lt x (omega arith)))
+
     -- rounding two parts up is paid for by q * r
     pub theta-within : (a b : ℕ) → r < a → r < b → a + b < p → theta p q r a + theta p q r b ≤ theta p q r (a + b)
     unfolding theta

@@ -7,7 +7,7 @@ use lib.ListN.{length, getD}
 
 -- the greatest capacity, parameter, scale and table entry
 abbrev pub limit : ℕ
-limit = 1_000_000_000
+limit = 4_000_000_000
 
 -- refusal 1 is that this is false
 unfoldable pub capacityFits : ℕ → Bool

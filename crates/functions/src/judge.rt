@@ -69,7 +69,7 @@ fn gaps(capacity: u64, p: u64) -> u64
 // The value at the capacity of what families 3, 4 and 6 mirror, which is half their scale.
 pub(crate) fn top(capacity: u64, family: u8, p: u64, q: u64) -> u64
     requires { ⌜ (capacityFits capacity ≡ true) × (legal capacity family p q ≡ true) ⌝ }
-    ensures { λ r. ⌜ (r ≡ topOf capacity family p q) × (r ≤ (limit + 1) * (limit + 1)) ⌝ }
+    ensures { λ r. ⌜ (r ≡ topOf capacity family p q) × (2 * r ≤ (limit + 1) * (limit + 1)) ⌝ }
 {
     match family {
         3 => capacity / p,
@@ -80,7 +80,8 @@ pub(crate) fn top(capacity: u64, family: u8, p: u64, q: u64) -> u64
 }
 
 // The scale. Of each product but that of family 7 the factors are within the limit; there
-// the first factor is within the capacity. Families 3, 4 and 6 come last.
+// the first factor is within the capacity. Families 3, 4 and 6 come last: in family 6 p is over 1,
+// so that twice the top is within (q + 1) * capacity.
 pub(crate) fn scale(capacity: u64, family: u8, p: u64, q: u64) -> u64
     requires { ⌜ (capacityFits capacity ≡ true) × (isFamily family ≡ true)
         × (legal capacity family p q ≡ true) ⌝ }

@@ -15,7 +15,7 @@ ghost use Rattle.functions.specs.Image.{familyRefusal, familyAnswer, ima
 ghost use Rattle.functions.specs.Summed.{Carriable};
 
 // The greatest capacity, parameter, scale and table entry.
-pub const LIMIT: u64 = 1_000_000_000;
+pub const LIMIT: u64 = 4_000_000_000;
 
 // The answer to an image: the number that refuses it, or 0 with the image and the scale.
 #[repr(C)]

@@ -1,11 +1,11 @@
--- `dash_gunluk` meets its contract: the gap divides n where the multiple of it that reaches n is n. No product has more than two unbounded factors.
+-- `dash_gunluk` meets its contract: the gap divides n where the multiple of it that reaches n is n. No product has more than two unbounded factors, and base and rest are bounded together.
 use mathlib.Core.Path.{_≡_, sym, ap, _∙_}
 use Prim.Native.Nat.{ℕ, _+_, _-_, _*_, _/_, _%_, _≤_, _<_}
 use native.Mathlib.Nat.{mod-le, mod-lt}
 use native.Mathlib.Omega.{arith}
 use Rattle.functions.specs.Words.{limit}
 use Rattle.functions.specs.Families.{dashGunluk, theta}
-use Rattle.functions.proofs.Bounds.{product-most, whole-most}
+use Rattle.functions.proofs.Bounds.{product-most, whole-most, whole-times-most}
 use Rattle.functions.proofs.Quotient.{up-below}
 use Rattle.functions.proofs.Remainder.{theta-of}
 use Rattle.functions.proofs.DashGunluk.{rest-divisible, rest-indivisible}
@@ -32,10 +32,11 @@ whole-below : (c : tie.After-round-up) → c .round-up .result * (c .before .bef
 whole-below c =
     rw (c .round-up .ensures) (up-below (c .before .before .args .p - c .before .before .args .r) (omega arith) (c .before .excess .result * c .before .before .args .q))
 
-base-most : (c : tie.After-round-up) → c .before .before .args .x / c .before .before .args .p * (c .before .before .args .p - c .before .before .args .r) * (c .before .before .args .q + 1) ≤ (limit + 1) * (limit + 1)
-base-most c =
+-- of base and rest together
+sum-most : (c : tie.After-round-up) → c .before .before .args .x / c .before .before .args .p * (c .before .before .args .p - c .before .before .args .r) * (c .before .before .args .q + 1) + c .before .excess .result * (c .before .before .args .q + 1) ≤ (limit + 1) * (limit + 1)
+sum-most c =
     let a = c .before .before .args in
-    product-most (a .x / a .p * (a .p - a .r)) (a .q + 1) (omega (arith, whole-most (a .p) (a .r) (a .x))) (omega arith)
+    whole-times-most (a .p) (a .q) (a .r) (a .x) (c .before .excess .result) (omega arith) (omega arith) (omega (arith, c .before .excess .ensures))
 
 n-is : (c : tie.After-round-up) → c .before .excess .result * c .before .before .args .q ≡ (c .before .before .args .x % c .before .before .args .p - c .before .before .args .r) * c .before .before .args .q
 n-is c = ap (λ (b : ℕ). b * c .before .before .args .q) (c .before .excess .ensures)
@@ -65,16 +66,16 @@ add-base : tie.Need-add-base
 add-base c = search needs
 
 mul-base-2 : tie.Need-mul-base-2
-mul-base-2 c = omega (arith, base-most c)
+mul-base-2 c = omega (arith, sum-most c)
 
 add-result : tie.Need-add-result
 add-result c = omega (arith, n-most (c .before .before), excess-most (c .before .before))
 
 add-result-2 : tie.Need-add-result-2
-add-result-2 c = omega (arith, base-most (c .before), n-most (c .before .before), excess-most (c .before .before))
+add-result-2 c = omega (arith, sum-most (c .before))
 
 add-result-3 : tie.Need-add-result-3
-add-result-3 c = omega (arith, base-most (c .before), n-most (c .before .before), whole-below (c .before))
+add-result-3 c = omega (arith, sum-most (c .before), whole-below (c .before))
 
 returns : tie.Need-returns
 unfolding dashGunluk

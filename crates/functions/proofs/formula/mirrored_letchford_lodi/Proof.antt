@@ -3,7 +3,7 @@ use mathlib.Core.Path.{sym, ap, _∙_}
 use native.Mathlib.Omega.{arith}
 use Rattle.functions.specs.Families.{letchfordLodi}
 use Rattle.functions.proofs.Superadditive.{monotone}
-use Rattle.functions.proofs.Remainder.{letchfordLodi-superadditive, letchfordLodi-most}
+use Rattle.functions.proofs.Remainder.{letchfordLodi-superadditive, letchfordLodi-twice}
 use borrow.Author.Needs.{needs}
 use Rattle.functions.proofs.formula.mirrored_letchford_lodi.Statement.{statement}
 use Rattle.functions.proofs.formula.mirrored_letchford_lodi.Tie as tie
@@ -22,7 +22,7 @@ mirrored-requires c κs =
     let a = c .before .before .args in
     let pre = c .before .before .pre in
     let rises = monotone (letchfordLodi (a .p) (a .q) (a .r)) (a .capacity) (letchfordLodi-superadditive (a .p) (a .q) (a .r) (pre .4) (pre .5) (a .capacity)) (c .before .lesser .result) (a .capacity) (omega arith) (omega arith) in
-    omega (arith, rises, letchfordLodi-most (a .p) (a .q) (a .r) (pre .4) (a .capacity) (omega arith) (omega arith))
+    omega (arith, rises, letchfordLodi-twice (a .p) (a .q) (a .r) (pre .4) (pre .5) (a .capacity) (omega arith) (omega arith))
 
 returns : tie.Need-returns
 returns c =

@@ -42,7 +42,7 @@ top-requires : tie.Need-top-requires
 top-requires c κs = search needs
 
 mul-result-3 : tie.Need-mul-result-3
-mul-result-3 c = search needs
+mul-result-3 c = omega (arith, c .top .ensures)
 
 returns : tie.Need-returns
 unfolding familyScale

@@ -8,7 +8,7 @@ use borrow.Author.Tests.{ne-eqb}
 use Rattle.functions.specs.Words.{limit}
 use Rattle.functions.specs.Families.{legal, quotient}
 use Rattle.functions.specs.Prepared.{topOf}
-use Rattle.functions.proofs.Bounds.{product-most}
+use Rattle.functions.proofs.Bounds.{twice-most}
 use Rattle.functions.proofs.FirstFour.{vanderbeck-top}
 use Rattle.functions.proofs.Remainder.{letchfordLodi-top}
 use Rattle.functions.proofs.Legal.{LegalPair, Within, within, legal-3, legal-4, legal-6}
@@ -31,11 +31,12 @@ fourth c = legal-4 _ _ _ (legal-at (c .before) 4 (c .match .keys2))
 sixth : (c : tie.At-match-keys3) → LegalPair (c .before .args .capacity) (c .before .args .p) (c .before .args .q)
 sixth c = legal-6 _ _ _ (legal-at (c .before) 6 (c .match .keys3))
 
-sixth-most : (c : tie.At-match-keys3) → (c .before .args .q + 1) * (c .before .args .capacity / c .before .args .p) ≤ (limit + 1) * (limit + 1)
+sixth-most : (c : tie.At-match-keys3) → 2 * ((c .before .args .q + 1) * (c .before .args .capacity / c .before .args .p)) ≤ (limit + 1) * (limit + 1)
 sixth-most c =
     let a = c .before .args in
     let w = limits (c .before) in
-    product-most (a .q + 1) (a .capacity / a .p) (omega arith) (omega (arith, div-le-self (a .capacity) (a .p)))
+    let pair = sixth c in
+    twice-most (a .p) (a .q) (a .capacity) (omega arith) (w .capacity-within-limit) (w .q-within-limit)
 
 div-result : tie.Need-div-result
 div-result c = third c .0
