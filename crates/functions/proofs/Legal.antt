@@ -1,11 +1,11 @@
 -- What refusals 1 to 4 leave of a family step, as facts on numbers.
 use mathlib.Core.Path.{_≡_, refl, sym, _∙_}
-use mathlib.Core.Bool.{Bool, true, false, cond, not, _&&_, _||_, and-eq-true-iff, or-true}
+use mathlib.Core.Bool.{Bool, true, false, cond, not, _&&_, _||_, and-eq-true-iff, and-false, or-true}
 use mathlib.Core.Logic.{_⊎_, inl, inr, ⊎-elim}
 use Prim.Native.Nat.{ℕ, zero, suc, _+_, _-_, _*_, _%_, _≤_, _<_}
 use native.Mathlib.Nat.{mod-lt, mul-le-mul-right}
 use native.Mathlib.Omega.{arith}
-use borrow.Author.Tests.{leb-true, ltb-true, ltb-false, eqb-true, le-leb, lt-ltb, le-ltb, eq-eqb, not-false}
+use borrow.Author.Tests.{leb-true, ltb-true, ltb-false, eqb-true, le-leb, lt-leb, lt-ltb, le-ltb, eq-eqb, not-false}
 use lib.Dec.{leb, ltb, eqb}
 use Rattle.functions.specs.Words.{limit, capacityFits}
 use Rattle.functions.specs.Families.{isFamily, legal, legalFor, legalPair, familyScale, _up_}
@@ -200,6 +200,28 @@ module _ (c p q : ℕ) where
   pub legal-7 : legal c 7 p q ≡ true → LegalPair c p q
   unfolding legalFor
   legal-7 e = legal-pair (own 7 e)
+
+  by-own-line : (family : ℕ) → legalFor c family p q ≡ false → legal c family p q ≡ false
+  unfolding legal
+  by-own-line family e = rw e (and-false (leb p limit && leb q limit && (ltb 5 family || eqb q 0)))
+
+  over-pair : c < p → legalPair c p q ≡ false
+  unfolding legalPair
+  over-pair l = rw (lt-leb p c l, and-false (leb 1 p))
+
+  -- no family takes a p that is over the capacity, but for the second
+  pub over-greatest : (family : ℕ) → 1 ≤ c → 1 ≤ family → family ≤ 7 → cond (eqb family 2) limit c < p → legal c family p q ≡ false
+  unfolding legal legalFor
+  over-greatest family pos least most over =
+      seven (λ n. cond (eqb n 2) limit c < p → legal c n p q ≡ false)
+      (λ l. by-own-line 1 (lt-leb (2 * p) (c + 1) (omega (arith, l))))
+      (λ l. rw (lt-leb p limit l))
+      (λ l. by-own-line 3 (rw (lt-leb (2 * p) c (omega (arith, l))) (and-false (leb 1 p))))
+      (λ l. by-own-line 4 (rw (lt-leb p c l) (and-false (leb 2 p))))
+      (λ l. by-own-line 5 (rw (lt-leb p c l) (and-false (leb 1 p))))
+      (λ l. by-own-line 6 (over-pair l))
+      (λ l. by-own-line 7 (over-pair l))
+      family least most over
 
   -- only family 1 takes p = 0
   pub p-positive : (family : ℕ) → (family ≡ 1 → ⊥) → familyRefusal c family p q ≡ 0 → 1 ≤ p

@@ -1,8 +1,9 @@
 // Whether a family step is accepted, and its scale.
 use crate::LIMIT;
 ghost use mathlib.Core.Path.{_≡_};
-ghost use mathlib.Core.Bool.{true};
+ghost use mathlib.Core.Bool.{true, cond};
 ghost use Prim.Native.Nat.{_+_, _-_, _*_, _/_, _%_, _≤_, _<_};
+ghost use lib.Dec.{eqb};
 ghost use Rattle.functions.specs.Words.{limit, capacityFits};
 ghost use Rattle.functions.specs.Families.{isFamily, legal, legalFor, legalPair, familyScale};
 ghost use Rattle.functions.specs.Prepared.{topOf};
@@ -13,48 +14,51 @@ pub(crate) fn is_family(family: u8) -> bool
     1 <= family && family <= 7
 }
 
-// The parameter of families 1 to 5, which have no q.
+// The parameter of families 1 to 5, which have no q. It is no more than the greatest.
 fn legal_single(capacity: u64, family: u8, p: u64) -> bool
-    requires { ⌜ (capacity ≤ limit) × (1 ≤ family) × (family ≤ 5) × (p ≤ limit) ⌝ }
+    requires { ⌜ (capacity ≤ limit) × (1 ≤ family) × (family ≤ 5) × (p ≤ limit)
+        × (p ≤ cond (eqb family 2) limit capacity) ⌝ }
     ensures { λ r. ⌜ r ≡ legalFor capacity family p 0 ⌝ }
 {
     match family {
         1 => 2 * p <= capacity + 1,
         2 => 1 <= p,
         3 => 1 <= p && 2 * p <= capacity,
-        4 => 2 <= p && p <= capacity,
-        _ => 1 <= p && p <= capacity,
+        4 => 2 <= p,
+        _ => 1 <= p,
     }
 }
 
 // The parameters of families 6 and 7: q + 1 is at least p up r where (q + 1) * r is at least p.
 fn legal_pair(capacity: u64, p: u64, q: u64) -> bool
-    requires { ⌜ (p ≤ limit) × (q ≤ limit) ⌝ }
+    requires { ⌜ (p ≤ capacity) × (p ≤ limit) × (q ≤ limit) ⌝ }
     ensures { λ r. ⌜ r ≡ legalPair capacity p q ⌝ }
 {
     if p < 1 {
-        return false;
-    }
-    if capacity < p {
         return false;
     }
     let r = capacity % p;
     0 < r && p <= (q + 1) * r
 }
 
+// Only family 2 takes a p over the capacity.
+fn greatest_p(capacity: u64, family: u8) -> u64
+    requires { ⌜ capacity ≤ limit ⌝ }
+    ensures { λ r. ⌜ (r ≤ limit) × (r ≡ cond (eqb family 2) limit capacity) ⌝ }
+{
+    if family == 2 { LIMIT } else { capacity }
+}
+
 pub(crate) fn is_legal(capacity: u64, family: u8, p: u64, q: u64) -> bool
-    requires { ⌜ (capacity ≤ limit) × (1 ≤ family) × (family ≤ 7) ⌝ }
+    requires { ⌜ (1 ≤ capacity) × (capacity ≤ limit) × (1 ≤ family) × (family ≤ 7) ⌝ }
     ensures { λ r. ⌜ r ≡ legal capacity family p q ⌝ }
 {
-    if LIMIT < p {
-        return false;
-    }
-    if LIMIT < q {
+    if greatest_p(capacity, family) < p {
         return false;
     }
     match family {
         1..=5 => q == 0 && legal_single(capacity, family, p),
-        _ => legal_pair(capacity, p, q),
+        _ => q <= LIMIT && legal_pair(capacity, p, q),
     }
 }
 

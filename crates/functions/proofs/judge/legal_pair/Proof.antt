@@ -14,10 +14,6 @@ returns : tie.Need-returns
 unfolding legalPair
 returns c = rw (lt-leb 1 _ (c .if1 .taken))
 
-returns-2 : tie.Need-returns-2
-unfolding legalPair
-returns-2 c = rw (le-leb 1 _ (c .before .if1 .left), lt-leb _ _ (c .if2 .taken))
-
 rem-r : tie.Need-rem-r
 rem-r c = search needs
 
@@ -26,21 +22,21 @@ add-result c = search needs
 
 mul-result : tie.Need-mul-result
 mul-result c =
-    let a = c .before .before .before .args in
-    omega (arith, product-most (a .q + 1) (a .capacity % a .p) (omega arith) (omega (arith, mod-lt (a .capacity) (c .before .before .if1 .left))))
+    let a = c .before .before .args in
+    omega (arith, product-most (a .q + 1) (a .capacity % a .p) (omega arith) (omega (arith, mod-lt (a .capacity) (c .before .if1 .left))))
+
+returns-2 : tie.Need-returns-2
+unfolding legalPair
+returns-2 c =
+    let a = c .before .before .args in
+    rw (le-leb 1 (a .p) (c .before .if1 .left), le-leb (a .p) (a .capacity) (c .before .before .pre .0), lt-ltb 0 (a .capacity % a .p) (c .if2 .taken), up-test (a .capacity % a .p) (c .if2 .taken) (a .p) (a .q))
 
 returns-3 : tie.Need-returns-3
 unfolding legalPair
 returns-3 c =
-    let a = c .before .before .before .args in
-    rw (le-leb 1 (a .p) (c .before .before .if1 .left), le-leb (a .p) (a .capacity) (c .before .if2 .left), lt-ltb 0 (a .capacity % a .p) (c .if3 .taken), up-test (a .capacity % a .p) (c .if3 .taken) (a .p) (a .q))
-
-returns-4 : tie.Need-returns-4
-unfolding legalPair
-returns-4 c =
-    let a = c .before .before .before .args in
-    rw (le-leb 1 (a .p) (c .before .before .if1 .left), le-leb (a .p) (a .capacity) (c .before .if2 .left), le-ltb 0 (a .capacity % a .p) (c .if3 .left))
+    let a = c .before .before .args in
+    rw (le-leb 1 (a .p) (c .before .if1 .left), le-leb (a .p) (a .capacity) (c .before .before .pre .0), le-ltb 0 (a .capacity % a .p) (c .if2 .left))
 
 pub legal-pair-spec : {M : Type 1} → statement M
 legal-pair-spec =
-    tie.close (tie.spec returns returns-2 rem-r add-result mul-result returns-3 returns-4)
+    tie.close (tie.spec returns rem-r add-result mul-result returns-2 returns-3)

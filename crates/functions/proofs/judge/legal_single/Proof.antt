@@ -1,5 +1,6 @@
 -- `legal_single` meets its contract: in each arm the family byte is known, and the definition computes to the arm's test.
 use mathlib.Core.Path.{_≡_}
+use mathlib.Core.Bool.{and-true}
 use native.Mathlib.Omega.{arith}
 use borrow.Author.Tests.{le-leb, lt-leb}
 use Rattle.functions.specs.Families.{legalFor}
@@ -37,19 +38,11 @@ returns-4 c = rw (c .before .match .keys3, lt-leb 1 _ (c .if1 .left))
 
 returns-5 : tie.Need-returns-5
 unfolding legalFor
-returns-5 c = rw (c .before .match .keys4, le-leb 2 _ (c .if2 .taken))
+returns-5 c = rw (c .match .keys4, le-leb _ _ (rw (c .match .keys4) at (c .before .pre .4)), and-true _)
 
 returns-6 : tie.Need-returns-6
 unfolding legalFor
-returns-6 c = rw (c .before .match .keys4, lt-leb 2 _ (c .if2 .left))
-
-returns-7 : tie.Need-returns-7
-unfolding legalFor
-returns-7 c = rw (fifth (c .before), le-leb 1 _ (c .if3 .taken))
-
-returns-8 : tie.Need-returns-8
-unfolding legalFor
-returns-8 c = rw (fifth (c .before), lt-leb 1 _ (c .if3 .left))
+returns-6 c = rw (fifth c, le-leb _ _ (rw (fifth c) at (c .before .pre .4)), and-true _)
 
 pub legal-single-spec : {M : Type 1} → statement M
 legal-single-spec =
@@ -63,6 +56,4 @@ legal-single-spec =
     returns-3
     returns-4
     returns-5
-    returns-6
-    returns-7
-    returns-8)
+    returns-6)
