@@ -21,6 +21,7 @@ from typing import Callable, NamedTuple, Optional
 
 import by_reference
 from by_reference import wf
+from edges import BEFORE
 from stored import fields_of
 
 
@@ -89,6 +90,27 @@ def steps_taken(capacity, steps):
         capacity = scale
 
 
+def reaches(given, step_meets, capacity_meets=lambda capacity: False):
+    """Whether a capacity that is reached, of the list or of a row, meets its test, or a step with the capacity that it
+    gets. Nothing is reached behind what is refused."""
+    for capacity, steps, number in judged_lists(given):
+        if capacity_meets(capacity):
+            return True
+        if number != wf.ACCEPTED:
+            return False
+        taken = list(steps_taken(capacity, steps))
+        if any(step_meets(present, step) for present, step, _ in taken):
+            return True
+        if any(number != wf.ACCEPTED for _, _, number in taken):
+            return False
+    return False
+
+
+def parameters_of(value):
+    """Family, p and q of a family step."""
+    return value[0], wf.number_of(value[1:5]), wf.number_of(value[5:9])
+
+
 def bad_table_of_another_capacity(given):
     """The first step that is not accepted is a table of another capacity, and its entries have 8 to 11 wrong. In rows
     the first decides: if it gets through, no table is bad."""
@@ -147,22 +169,12 @@ def sweep_over_a_half(given):
 
 def is_half_step(capacity, step):
     tag, value = step
-    p, q = wf.number_of(value[1:5]), wf.number_of(value[5:9])
-    return tag == wf.FAMILY_STEP and is_half(capacity, value[0], p, q)
+    return tag == wf.FAMILY_STEP and is_half(capacity, *parameters_of(value))
 
 
 def job_with_a_half(given):
     """A step that is reached, in the list or in a row, is half of the odd capacity that it gets."""
-    for capacity, steps in up_to_the_steps(given):
-        taken = list(steps_taken(capacity, steps))
-        if any(is_half_step(present, step) for present, step, _ in taken):
-            return True
-        if any(number != wf.ACCEPTED for _, _, number in taken):
-            return False
-    return False
-
-
-BEFORE = 1_000_000_000  # the limit that request 7 raises
+    return reaches(given, is_half_step)
 
 
 def is_raised(number):
@@ -191,11 +203,11 @@ def entries_over_the_old_limit(entries):
 
 
 def table_over_the_old_limit(given):
-    """Neither 6 nor 7 is told, and 10 was."""
+    """6 to 10 are not told, and 10 was."""
     entries = given["entries"]
-    working, listed = given.get("working_places", len(entries)), given.get("list_places", len(entries) - 1)
-    return (2 <= len(entries) <= wf.MOST_ENTRIES and working >= len(entries) and listed >= len(entries) - 1
-            and entries_over_the_old_limit(entries))
+    working, listed = (by_reference.places_of(given, name, least)
+                       for name, least in (("working", len(entries)), ("list", len(entries) - 1)))
+    return wf.early_table_refusal(entries, working, listed) == wf.ACCEPTED and is_raised(max(entries))
 
 
 def sweep_over_the_old_limit(given):
@@ -215,22 +227,12 @@ def step_over_the_old_limit(capacity, step):
     tag, value = step
     if tag == wf.TABLE_STEP:
         return entries_over_the_old_limit(wf.numbers_of(value))
-    return was_refused(capacity, value[0], wf.number_of(value[1:5]), wf.number_of(value[5:9]))
+    return was_refused(capacity, *parameters_of(value))
 
 
 def job_over_the_old_limit(given):
     """A capacity or a right side that is reached was refused with 1, or a step that is reached with 3, 4 or 10."""
-    for capacity, steps, number in judged_lists(given):
-        if is_raised(capacity):
-            return True
-        if number != wf.ACCEPTED:
-            return False
-        taken = list(steps_taken(capacity, steps))
-        if any(step_over_the_old_limit(present, step) for present, step, _ in taken):
-            return True
-        if any(number != wf.ACCEPTED for _, _, number in taken):
-            return False
-    return False
+    return reaches(given, step_over_the_old_limit, is_raised)
 
 
 EXCEPTIONS = [

@@ -14,7 +14,7 @@ whole-most p r x =
     let gap : p - r ≤ p = omega arith in
     omega (arith, mul-le-mul-left (x / p) gap, div-add-mod' x p)
 
--- each of them q + 1 times, with b of the remainder: it is the sum that is bounded
+-- the same q + 1 times, for b up to the remainder
 pub whole-times-most : (p q r x b : ℕ) → x ≤ limit → q ≤ limit → b ≤ x % p → x / p * (p - r) * (q + 1) + b * (q + 1) ≤ (limit + 1) * (limit + 1)
 whole-times-most p q r x b hx hq hb =
     omega (arith, product-most (x / p * (p - r) + b) (q + 1) (omega (arith, whole-most p r x)) (omega arith))

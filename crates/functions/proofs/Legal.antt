@@ -10,6 +10,7 @@ use lib.Dec.{leb, ltb, eqb}
 use Rattle.functions.specs.Words.{limit, capacityFits}
 use Rattle.functions.specs.Families.{isFamily, legal, legalFor, legalPair, familyScale, _up_}
 use Rattle.functions.specs.Image.{familyRefusal}
+use Rattle.functions.specs.Prepared.{greatestP}
 use Rattle.functions.proofs.Cases.{lt-or-ge, not-refused}
 use Rattle.functions.proofs.Quotient.{up-reaches}
 
@@ -209,11 +210,11 @@ module _ (c p q : ℕ) where
   unfolding legalPair
   over-pair l = rw (lt-leb p c l, and-false (leb 1 p))
 
-  -- no family takes a p that is over the capacity, but for the second
-  pub over-greatest : (family : ℕ) → 1 ≤ c → 1 ≤ family → family ≤ 7 → cond (eqb family 2) limit c < p → legal c family p q ≡ false
+  -- a p over the greatest is illegal
+  pub over-greatest : (family : ℕ) → 1 ≤ c → 1 ≤ family → family ≤ 7 → greatestP c family < p → legal c family p q ≡ false
   unfolding legal legalFor
   over-greatest family pos least most over =
-      seven (λ n. cond (eqb n 2) limit c < p → legal c n p q ≡ false)
+      seven (λ n. greatestP c n < p → legal c n p q ≡ false)
       (λ l. by-own-line 1 (lt-leb (2 * p) (c + 1) (omega (arith, l))))
       (λ l. rw (lt-leb p limit l))
       (λ l. by-own-line 3 (rw (lt-leb (2 * p) c (omega (arith, l))) (and-false (leb 1 p))))

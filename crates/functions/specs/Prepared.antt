@@ -1,11 +1,16 @@
--- Within the crate: a step with what no size changes.
+-- Within the crate: the greatest p that a family takes at all, and a step with what no size changes.
 use mathlib.Core.Path.{_≡_}
 use mathlib.Core.Bool.{cond}
 use Prim.Native.Nat.{ℕ, _%_}
 use lib.Dec.{eqb}
+use Rattle.functions.specs.Words.{limit}
 use Rattle.functions.specs.Families.{quotient, vanderbeck, letchfordLodi}
 use Rattle.functions.specs.Image.{familyRefusal}
 use Rattle.functions.specs.declared.steps.PreparedStep.{PreparedStep}
+
+-- only family 2 takes a p over the capacity
+abbrev pub greatestP : ℕ → ℕ → ℕ
+greatestP c family = cond (eqb family 2) limit c
 
 -- the value at the capacity of what families 3, 4 and 6 mirror
 unfoldable pub topOf : ℕ → ℕ → ℕ → ℕ → ℕ

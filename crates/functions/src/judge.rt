@@ -1,12 +1,11 @@
 // Whether a family step is accepted, and its scale.
 use crate::LIMIT;
 ghost use mathlib.Core.Path.{_≡_};
-ghost use mathlib.Core.Bool.{true, cond};
+ghost use mathlib.Core.Bool.{true};
 ghost use Prim.Native.Nat.{_+_, _-_, _*_, _/_, _%_, _≤_, _<_};
-ghost use lib.Dec.{eqb};
 ghost use Rattle.functions.specs.Words.{limit, capacityFits};
 ghost use Rattle.functions.specs.Families.{isFamily, legal, legalFor, legalPair, familyScale};
-ghost use Rattle.functions.specs.Prepared.{topOf};
+ghost use Rattle.functions.specs.Prepared.{greatestP, topOf};
 
 pub(crate) fn is_family(family: u8) -> bool
     ensures { λ r. ⌜ r ≡ isFamily family ⌝ }
@@ -17,7 +16,7 @@ pub(crate) fn is_family(family: u8) -> bool
 // The parameter of families 1 to 5, which have no q. It is no more than the greatest.
 fn legal_single(capacity: u64, family: u8, p: u64) -> bool
     requires { ⌜ (capacity ≤ limit) × (1 ≤ family) × (family ≤ 5) × (p ≤ limit)
-        × (p ≤ cond (eqb family 2) limit capacity) ⌝ }
+        × (p ≤ greatestP capacity family) ⌝ }
     ensures { λ r. ⌜ r ≡ legalFor capacity family p 0 ⌝ }
 {
     match family {
@@ -41,10 +40,9 @@ fn legal_pair(capacity: u64, p: u64, q: u64) -> bool
     0 < r && p <= (q + 1) * r
 }
 
-// Only family 2 takes a p over the capacity.
 fn greatest_p(capacity: u64, family: u8) -> u64
     requires { ⌜ capacity ≤ limit ⌝ }
-    ensures { λ r. ⌜ (r ≤ limit) × (r ≡ cond (eqb family 2) limit capacity) ⌝ }
+    ensures { λ r. ⌜ (r ≤ limit) × (r ≡ greatestP capacity family) ⌝ }
 {
     if family == 2 { LIMIT } else { capacity }
 }
