@@ -24,7 +24,7 @@ PREFIX = /usr/local
 LIBRARY = target/libwindowfloor.a
 # The crates with functions for C. rt makes no archive of any other: what these reach in the crates
 # below is in their own.
-EXPORTING = functions tables jobs sweeps
+EXPORTING = functions tables jobs sweeps exact
 ARCHIVES = $(EXPORTING:%=target/staticlib/lib%.a)
 COMPARE = tests/c/compare.c tests/c/inputs.c tests/c/reference.c
 SOURCES = $(wildcard examples/*.c tests/c/*.c tests/releases/*.c bench/*.c)
@@ -59,11 +59,13 @@ target/room:
 target/proved-tables.log: target/proved-functions.log
 target/proved-fields.log: target/proved-tables.log
 target/proved-chains.log: target/proved-fields.log
-target/proved-blocks.log: target/proved-chains.log
+target/proved-lists.log: target/proved-chains.log
+target/proved-blocks.log: target/proved-chains.log | target/proved-lists.log
 target/proved-jobs.log: target/proved-blocks.log
 target/staticlib/libtables.a: target/proved-functions.log | target/staticlib/libfunctions.a
 target/staticlib/libjobs.a: target/proved-blocks.log | target/staticlib/libtables.a
-target/staticlib/libsweeps.a: target/proved-jobs.log | target/staticlib/libjobs.a
+target/staticlib/libsweeps.a: target/proved-jobs.log target/proved-lists.log | target/staticlib/libjobs.a
+target/staticlib/libexact.a: target/proved-jobs.log target/proved-lists.log | target/staticlib/libsweeps.a
 
 # touch: rt leaves the program as it is where nothing that it is made of has changed.
 target/bin/windowfloor: $$(call sources,report windowfloor) target/proved-jobs.log
@@ -119,12 +121,12 @@ test: header target/compare target/compare-sanitized target/planner target/plann
 	tests/c/planner.sh target/planner-sanitized
 	CC='$(CC)' tests/c/install.sh
 
-target/releases-answers: tests/releases/answers.c include/windowfloor.h $(LIBRARY)
+target/releases-answers: tests/releases/answers.c tests/c/assignment.h include/windowfloor.h $(LIBRARY)
 	$(CC) $(CFLAGS) $< $(LIBRARY) $(LDLIBS) -o $@
 
 # The same driver over the C reference.
-target/releases-reference: tests/releases/answers.c tests/c/reference.c tests/c/reference.h include/windowfloor.h
-	$(CC) $(CFLAGS) $(foreach name,image table_check job sweep,-Dwindowfloor_$(name)=reference_$(name)) \
+target/releases-reference: tests/releases/answers.c tests/c/reference.c $(wildcard tests/c/*.h) include/windowfloor.h
+	$(CC) $(CFLAGS) $(foreach name,image table_check job sweep exact,-Dwindowfloor_$(name)=reference_$(name)) \
 		tests/releases/answers.c tests/c/reference.c -o $@
 
 releases: target/releases-answers target/releases-reference target/bin/windowfloor
@@ -140,6 +142,7 @@ reference:
 	python3 -B tests/reference/table_cases.py --check
 	python3 -B tests/reference/job_cases.py --check
 	python3 -B tests/reference/sweep_cases.py --check
+	python3 -B tests/reference/exact_cases.py --check
 	python3 -B tests/reference/planner_cases.py
 
 outside: target/bin/windowfloor test program releases reference

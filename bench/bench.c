@@ -44,8 +44,20 @@ static uint32_t sizes[WINDOWFLOOR_MOST_SIZES];
 static uint16_t counts[WINDOWFLOOR_MOST_SIZES];
 static uint64_t low, high;
 
+enum { SHORT_LISTS = 256, COPIES = WINDOWFLOOR_MOST_COPIES };
+
+static struct short_list {
+    uint32_t capacity;
+    size_t n;
+    uint32_t sizes[COPIES]; /* each counts once */
+} short_lists[SHORT_LISTS];
+static size_t lists;
+
+static uint32_t windows[SHORT_LISTS][WINDOWFLOOR_EXACT_WINDOWS]; /* not compared: there may be several */
+
 static struct {
     uint64_t answer[9];
+    uint64_t fewest[SHORT_LISTS];
     uint64_t image_answers[IMAGES];
     uint64_t working[WINDOWFLOOR_JOB_WORKING];
     uint32_t images[WINDOWFLOOR_JOB_IMAGES], list[WINDOWFLOOR_JOB_LIST];
@@ -97,6 +109,26 @@ static void run_one_sweep(const struct contender *who)
             : run_sweep(who->parts, capacity, family, sizes, WINDOWFLOOR_MOST_SIZES, counts,
                         WINDOWFLOOR_MOST_SIZES, low, high);
     memcpy(out.answer, &answer, sizeof answer);
+}
+
+static struct windowfloor_exact_answer run_one_exact(const struct contender *who, size_t i)
+{
+    static const uint16_t ones[COPIES] = {1, 1, 1, 1, 1, 1, 1, 1, 1, 1};
+    const struct short_list *list = &short_lists[i];
+    return who->parts == NULL
+               ? windowfloor_exact(list->capacity, list->sizes, list->n, ones, list->n, windows[i],
+                                   WINDOWFLOOR_EXACT_WINDOWS)
+               : run_exact(who->parts, list->capacity, list->sizes, list->n, ones, list->n, windows[i],
+                           WINDOWFLOOR_EXACT_WINDOWS);
+}
+
+static void run_exacts(const struct contender *who)
+{
+    for (size_t i = 0; i < lists; i++) {
+        struct windowfloor_exact_answer answer = run_one_exact(who, i);
+        out.answer[0] |= answer.number;
+        out.fewest[i] = answer.fewest;
+    }
 }
 
 /* Inputs */
@@ -330,6 +362,103 @@ static void prepare_counted_sweep(uint32_t of_capacity, uint32_t of_family)
         counts[i] = (uint16_t)draw_count();
 }
 
+/* Short lists */
+
+static void draw_list(struct short_list *list, uint32_t of_capacity, size_t copies, uint32_t least,
+                      uint32_t most)
+{
+    list->capacity = of_capacity;
+    list->n = copies;
+    for (size_t i = 0; i < copies; i++)
+        list->sizes[i] = least + below(most - least + 1);
+}
+
+static void prepare_short_lists(uint32_t of_capacity, uint32_t copies)
+{
+    for (lists = 0; lists < SHORT_LISTS; lists++)
+        draw_list(&short_lists[lists], of_capacity, copies, 1, of_capacity);
+}
+
+/* Of sizes within a twentieth of the capacity from its half, third or fourth part. */
+static void prepare_near_part(uint32_t of_capacity, uint32_t part)
+{
+    uint32_t middle = of_capacity / part, distance = of_capacity / 20;
+    for (lists = 0; lists < SHORT_LISTS; lists++)
+        draw_list(&short_lists[lists], of_capacity, COPIES, middle - distance, middle + distance);
+}
+
+/* The floor without a step. */
+static uint64_t floor_of(const struct short_list *list)
+{
+    uint64_t sum = 0;
+    for (size_t i = 0; i < list->n; i++)
+        sum += list->sizes[i];
+    return round_up(sum, list->capacity);
+}
+
+static void prepare_above_floor(uint32_t of_capacity, uint32_t copies)
+{
+    for (lists = 0; lists < SHORT_LISTS; lists++)
+        do
+            draw_list(&short_lists[lists], of_capacity, copies, 1, of_capacity);
+        while (run_one_exact(&contenders[TUNED], lists).fewest == floor_of(&short_lists[lists]));
+}
+
+/* Found by random changes that make a search in list order longer, where it asks for each number of windows
+ * whether it is enough; the last five, that make it longer beside plain C, as several numbers are not. */
+static const struct short_list hardest[] = {
+    {1000, 10, {320, 289, 292, 307, 345, 254, 301, 190, 622, 860}},
+    {10, 10, {3, 3, 3, 3, 3, 3, 3, 3, 5, 9}},
+    {10, 10, {4, 3, 3, 2, 3, 3, 3, 3, 6, 10}},
+    {1000000, 10, {357386, 258032, 254744, 293405, 331925, 261695, 239596, 272580, 621354, 844395}},
+    {4000000000, 10,
+     {1009490743, 1163230867, 1116641701, 1239343236, 1377164887, 1176674582, 1006842660, 1047615451,
+      2355925002, 3661294048}},
+    {1000, 10, {258, 254, 256, 142, 225, 210, 435, 461, 698, 972}},
+    {1000, 10, {319, 268, 255, 11, 262, 283, 360, 262, 926, 1000}},
+    {1000, 10, {236, 223, 227, 288, 245, 227, 198, 386, 856, 858}},
+    {1000, 10, {8, 31, 29, 98, 683, 1, 620, 513, 512, 490}},
+    {1000, 10, {121, 88, 418, 100, 100, 434, 413, 412, 876, 958}},
+    {1000, 10, {94, 336, 1, 338, 81, 428, 362, 365, 719, 897}},
+    {1000000, 10, {167119, 164127, 175130, 149056, 194146, 148892, 610224, 543543, 710913, 923878}},
+    {1000, 10, {454, 401, 425, 628, 656, 684, 646, 770, 641, 631}},
+    {1000, 10, {371, 388, 544, 493, 519, 679, 709, 708, 930, 655}},
+    {1000, 10, {265, 363, 319, 343, 837, 742, 835, 737, 745, 737}},
+    {1000, 10, {62, 505, 101, 521, 540, 805, 521, 539, 846, 524}},
+    {1000, 10, {7, 530, 11, 105, 512, 544, 790, 905, 1000, 552}},
+};
+
+enum { HARDEST = 12, BESIDE_PLAIN = sizeof hardest / sizeof *hardest - HARDEST };
+
+static void prepare_hardest(uint32_t first, uint32_t many)
+{
+    for (lists = 0; lists < many; lists++)
+        short_lists[lists] = hardest[first + lists];
+}
+
+/* Whether the windows of a list are below the fewest, and none has more than the capacity. */
+static int windows_hold(size_t i)
+{
+    uint64_t loads[WINDOWFLOOR_EXACT_WINDOWS] = {0};
+    for (size_t copy = 0; copy < short_lists[i].n; copy++) {
+        uint32_t window = windows[i][copy];
+        if (window >= out.fewest[i])
+            return 0;
+        loads[window] += short_lists[i].sizes[copy];
+        if (loads[window] > short_lists[i].capacity)
+            return 0;
+    }
+    return 1;
+}
+
+static int all_windows_hold(void)
+{
+    for (size_t i = 0; i < lists; i++)
+        if (!windows_hold(i))
+            return 0;
+    return 1;
+}
+
 /* Rows */
 
 struct row {
@@ -370,6 +499,8 @@ struct row {
 #define COUNTED_SWEEP_ROW(c, with, name) \
     {"sweep, 4,096 p × 2,048 sizes with counts, " name, prepare_counted_sweep, c, with, run_one_sweep, \
      "ms", 1e3, 1, 0, 0, 0}
+#define EXACT_ROW(prepare, c, with, lists, what) \
+    {"exact, " what, prepare, c, with, run_exacts, "µs", 1e6, lists, 0, 0, 0}
 #define AT_LIMIT ", C = 4 × 10^9"
 
 enum { MILLION = 1000000, SWEPT = 100003 }; /* capacities */
@@ -404,6 +535,16 @@ static const struct row rows[] = {
     COUNTED_SWEEP_ROW(SWEPT, 3, "family 3"),
     COUNTED_SWEEP_ROW(SWEPT, 4, "family 4"),
     COUNTED_SWEEP_ROW(SWEPT, 5, "family 5"),
+    EXACT_ROW(prepare_short_lists, MILLION, 6, SHORT_LISTS, "6 copies up to C"),
+    EXACT_ROW(prepare_short_lists, MILLION, 10, SHORT_LISTS, "10 copies up to C"),
+    EXACT_ROW(prepare_near_part, MILLION, 2, SHORT_LISTS, "10 copies near C / 2"),
+    EXACT_ROW(prepare_near_part, MILLION, 3, SHORT_LISTS, "10 copies near C / 3"),
+    EXACT_ROW(prepare_near_part, MILLION, 4, SHORT_LISTS, "10 copies near C / 4"),
+    EXACT_ROW(prepare_above_floor, MILLION, 10, SHORT_LISTS, "10 copies up to C, the floor below the fewest"),
+    EXACT_ROW(prepare_hardest, 0, HARDEST, HARDEST, "10 copies, the hardest lists known"),
+    EXACT_ROW(prepare_hardest, 0, 1, 1, "10 copies, one of the hardest lists"),
+    EXACT_ROW(prepare_hardest, HARDEST, BESIDE_PLAIN, BESIDE_PLAIN,
+              "10 copies, the hardest lists beside plain C"),
     IMAGE_ROWS(WINDOWFLOOR_LIMIT, AT_LIMIT),
     TABLE_ROW(2047, WINDOWFLOOR_LIMIT, "2,047, entries up to 4 × 10^9"),
     JOB_ROW(prepare_family_job, WINDOWFLOOR_LIMIT, 8, "2,048 sizes, 8 family steps" AT_LIMIT, 0),
@@ -414,6 +555,7 @@ static const struct row rows[] = {
     SWEEP_ROW(WINDOWFLOOR_LIMIT, 3, "family 3" AT_LIMIT),
     SWEEP_ROW(WINDOWFLOOR_LIMIT, 4, "family 4" AT_LIMIT),
     SWEEP_ROW(WINDOWFLOOR_LIMIT, 5, "family 5" AT_LIMIT),
+    EXACT_ROW(prepare_short_lists, WINDOWFLOOR_LIMIT, 10, SHORT_LISTS, "10 copies up to C" AT_LIMIT),
 };
 
 /* Comparing and measuring */
@@ -428,17 +570,19 @@ static uint64_t digest(void)
 }
 
 /* All three accept, or refuse by the row's number, and leave the same answers and buffers. (A job's working
- * buffer is free.) */
+ * buffer is free, and windows need only hold their copies.) */
 static void compare(const struct row *row)
 {
     uint64_t results[CONTENDERS];
     for (int who = 0; who < CONTENDERS; who++) {
         memset(&out, 0, sizeof out);
+        memset(windows, 0xff, sizeof windows);
         row->run(&contenders[who]);
         if (row->run == run_one_job)
             memset(out.working, 0, sizeof out.working);
         results[who] = digest();
-        if (out.answer[0] != row->number || results[who] != results[LIBRARY]) {
+        int held = row->run != run_exacts || all_windows_hold();
+        if (out.answer[0] != row->number || results[who] != results[LIBRARY] || !held) {
             fprintf(stderr, "bench: %s: %s has another number or differs\n", row->name, contenders[who].name);
             exit(1);
         }

@@ -371,6 +371,22 @@ struct windowfloor_job_answer run_job(const struct parts *parts, const uint8_t *
     return answer;
 }
 
+/* The list of a sweep or of a short list */
+
+static uint64_t judge_sizes(uint64_t capacity, const uint32_t *sizes, size_t n, const uint16_t *counts,
+                            size_t counts_length)
+{
+    if (n > WINDOWFLOOR_MOST_SIZES || counts_length != n)
+        return WINDOWFLOOR_BAD_COUNT;
+    for (size_t i = 0; i < n; i++)
+        if (sizes[i] == 0 || sizes[i] > capacity)
+            return WINDOWFLOOR_BAD_SIZE;
+    for (size_t i = 0; i < n; i++)
+        if (counts[i] == 0)
+            return WINDOWFLOOR_COUNT_0;
+    return 0;
+}
+
 /* Sweep */
 
 static uint64_t judge_sweep(uint64_t capacity, uint8_t family, const uint32_t *sizes, size_t n,
@@ -381,14 +397,9 @@ static uint64_t judge_sweep(uint64_t capacity, uint8_t family, const uint32_t *s
         return WINDOWFLOOR_BAD_CAPACITY;
     if (family < 1 || family > WINDOWFLOOR_SWEEP_FAMILIES)
         return WINDOWFLOOR_BAD_FAMILY;
-    if (n > WINDOWFLOOR_MOST_SIZES || counts_length != n)
-        return WINDOWFLOOR_BAD_COUNT;
-    for (size_t i = 0; i < n; i++)
-        if (sizes[i] == 0 || sizes[i] > capacity)
-            return WINDOWFLOOR_BAD_SIZE;
-    for (size_t i = 0; i < n; i++)
-        if (counts[i] == 0)
-            return WINDOWFLOOR_COUNT_0;
+    uint64_t number = judge_sizes(capacity, sizes, n, counts, counts_length);
+    if (number != 0)
+        return number;
     if (low > high || high - low > WINDOWFLOOR_MOST_SPAN)
         return WINDOWFLOOR_BAD_RANGE;
     return 0;
@@ -416,5 +427,44 @@ struct windowfloor_sweep_answer run_sweep(const struct parts *parts, uint64_t ca
             answer.p = p;
         }
     }
+    return answer;
+}
+
+/* Exact */
+
+/* The refusal of a short list, or 0 and its copies and their sum. */
+static uint64_t judge_copies(uint64_t capacity, const uint32_t *sizes, size_t n, const uint16_t *counts,
+                             size_t counts_length, struct copies *copies, uint64_t *sum)
+{
+    if (capacity < 1 || capacity > LIMIT)
+        return WINDOWFLOOR_BAD_CAPACITY;
+    uint64_t number = judge_sizes(capacity, sizes, n, counts, counts_length);
+    if (number != 0)
+        return number;
+    copies->n = 0;
+    *sum = 0;
+    for (size_t i = 0; i < n; i++) {
+        if (copies->n + counts[i] > WINDOWFLOOR_MOST_COPIES)
+            return WINDOWFLOOR_TOO_MANY_COPIES;
+        for (uint16_t copy = 0; copy < counts[i]; copy++)
+            copies->sizes[copies->n++] = sizes[i];
+        *sum += (uint64_t)counts[i] * sizes[i];
+    }
+    return 0;
+}
+
+struct windowfloor_exact_answer run_exact(const struct parts *parts, uint64_t capacity,
+                                          const uint32_t *sizes, size_t n,
+                                          const uint16_t *counts, size_t counts_length,
+                                          uint32_t *windows, size_t windows_places)
+{
+    struct windowfloor_exact_answer answer = {0, 0};
+    struct copies copies;
+    uint64_t sum;
+    answer.number = judge_copies(capacity, sizes, n, counts, counts_length, &copies, &sum);
+    if (answer.number == 0 && windows_places < WINDOWFLOOR_EXACT_WINDOWS)
+        answer.number = WINDOWFLOOR_SHORT_BUFFER;
+    if (answer.number == 0)
+        answer.fewest = parts->fill_windows(&copies, capacity, round_up(sum, capacity), windows);
     return answer;
 }

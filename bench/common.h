@@ -102,6 +102,12 @@ static inline uint64_t sum_from(const struct counted *list, size_t from, size_t 
     return sum;
 }
 
+/* A short list, each copy by itself. */
+struct copies {
+    size_t n;
+    uint32_t sizes[WINDOWFLOOR_MOST_COPIES];
+};
+
 struct parts {
     void (*fill_bests)(const uint32_t *table, size_t capacity, uint64_t *best);
     void (*map_family)(uint64_t capacity, uint8_t family, uint64_t p, uint64_t q, uint32_t *list,
@@ -114,6 +120,9 @@ struct parts {
     /* writes the floor of each block; the sum of all, and the floors' total */
     struct sums (*floor_blocks)(const struct counted *list, const uint8_t *blocks, size_t count,
                                 uint64_t scale, uint32_t *floors);
+    /* writes a window for each copy; the fewest. No fewer than `least` hold the sum */
+    uint64_t (*fill_windows)(const struct copies *copies, uint64_t capacity, uint64_t least,
+                             uint32_t *windows);
 };
 
 extern const struct parts plain_parts, tuned_parts;
@@ -135,5 +144,10 @@ struct windowfloor_sweep_answer run_sweep(const struct parts *parts, uint64_t ca
                                           uint8_t family, const uint32_t *sizes, size_t n,
                                           const uint16_t *counts, size_t counts_length,
                                           uint64_t low, uint64_t high);
+
+struct windowfloor_exact_answer run_exact(const struct parts *parts, uint64_t capacity,
+                                          const uint32_t *sizes, size_t n,
+                                          const uint16_t *counts, size_t counts_length,
+                                          uint32_t *windows, size_t windows_places);
 
 #endif

@@ -1,5 +1,7 @@
 /* The operations as most would write them: each image from its formula, each best over all sizes, a table
- * decoded for each row. */
+ * decoded for each row, a short list by branch and bound. */
+#include <string.h>
+
 #include "common.h"
 
 static uint64_t threshold(uint64_t capacity, uint64_t p, uint64_t x)
@@ -140,4 +142,45 @@ static struct sums floor_blocks(const struct counted *list, const uint8_t *block
     return sums;
 }
 
-const struct parts plain_parts = {fill_bests, map_family, map_table, sum_of_images, floor_blocks};
+struct search {
+    const struct copies *copies;
+    uint64_t least, fewest; /* the fewest so far */
+    uint64_t rooms[WINDOWFLOOR_MOST_COPIES];
+    uint32_t windows[WINDOWFLOOR_MOST_COPIES];
+    uint32_t *best;
+};
+
+/* The copies from the i-th on, in list order: each into every open window with room for it, and into a new
+ * one. */
+static void place_from(struct search *s, size_t i, size_t open)
+{
+    if (open >= s->fewest)
+        return;
+    if (i == s->copies->n) {
+        s->fewest = open;
+        memcpy(s->best, s->windows, i * sizeof *s->best);
+        return;
+    }
+    uint32_t size = s->copies->sizes[i];
+    for (size_t w = 0; w <= open && s->fewest > s->least; w++) {
+        if (s->rooms[w] < size)
+            continue;
+        s->rooms[w] -= size;
+        s->windows[i] = (uint32_t)w;
+        place_from(s, i + 1, open + (w == open));
+        s->rooms[w] += size;
+    }
+}
+
+static uint64_t fill_windows(const struct copies *copies, uint64_t capacity, uint64_t least,
+                             uint32_t *windows)
+{
+    struct search s = {copies, least, copies->n + 1, {0}, {0}, windows};
+    for (size_t w = 0; w < copies->n; w++)
+        s.rooms[w] = capacity;
+    place_from(&s, 0, 0);
+    return s.fewest;
+}
+
+const struct parts plain_parts = {fill_bests, map_family, map_table, sum_of_images, floor_blocks,
+                                  fill_windows};

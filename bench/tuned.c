@@ -1,7 +1,7 @@
 /* The operations tuned: the family is chosen once, a step is prepared once, mirrored families fold
  * y = min(x, C - x), formulas have no branches on data, the table check looks at half of the sums, two at a
  * time, and a table's entries are decoded once: rows behind the first read those they need where they
- * lie. */
+ * lie. The search for windows takes the largest copies first and leaves out what it can know to fail. */
 #include "common.h"
 
 /* What a step's formula needs and the size does not change. */
@@ -204,4 +204,93 @@ static struct sums floor_blocks(const struct counted *list, const uint8_t *block
     return sums;
 }
 
-const struct parts tuned_parts = {fill_bests, map_family, map_table, sum_of_images, floor_blocks};
+/* Copies from the largest on, in at most so many windows. */
+struct search {
+    size_t n, most;
+    uint32_t capacity;
+    uint32_t sizes[WINDOWFLOOR_MOST_COPIES], place[WINDOWFLOOR_MOST_COPIES]; /* in the list */
+    uint32_t rooms[WINDOWFLOOR_MOST_COPIES];
+    uint64_t rest[WINDOWFLOOR_MOST_COPIES]; /* the sum of a copy and those behind it */
+    uint32_t *windows;                      /* of the list */
+};
+
+/* Whether the rooms that the least copy fits hold the rest. */
+static inline int has_room(const struct search *s, size_t i, size_t open)
+{
+    uint64_t room = (uint64_t)(s->most - open) * s->capacity;
+    for (size_t w = 0; w < open; w++)
+        room += s->rooms[w] < s->sizes[s->n - 1] ? 0 : s->rooms[w];
+    return room >= s->rest[i];
+}
+
+/* Whether a window from the first on, before this one, has the same room: then it would go the same way. */
+static inline int is_repeated(const struct search *s, size_t first, size_t w)
+{
+    for (size_t other = first; other < w; other++)
+        if (s->rooms[other] == s->rooms[w])
+            return 1;
+    return 0;
+}
+
+/* Whether the copies from the i-th on find windows, those of the i-th copy's size none before the first.
+ * Where a copy fills a window, no other need be tried: what else would go there fits where the copy would. */
+static int place_from(struct search *s, size_t i, size_t open, size_t first)
+{
+    if (i == s->n)
+        return 1;
+    if (!has_room(s, i, open))
+        return 0;
+    uint32_t size = s->sizes[i];
+    int same = i + 1 < s->n && s->sizes[i + 1] == size;
+    for (size_t w = first; w < open + (open < s->most); w++) {
+        uint32_t room = s->rooms[w];
+        if (room < size || is_repeated(s, first, w))
+            continue;
+        s->rooms[w] = room - size;
+        s->windows[s->place[i]] = (uint32_t)w;
+        int placed = place_from(s, i + 1, open + (w == open), same ? w : 0);
+        s->rooms[w] = room;
+        if (placed || room == size)
+            return placed;
+    }
+    return 0;
+}
+
+static void sort_copies(struct search *s, const struct copies *copies)
+{
+    for (uint32_t i = 0; i < copies->n; i++) {
+        uint32_t at = i, size = copies->sizes[i];
+        for (; at > 0 && s->sizes[at - 1] < size; at--) {
+            s->sizes[at] = s->sizes[at - 1];
+            s->place[at] = s->place[at - 1];
+        }
+        s->sizes[at] = size;
+        s->place[at] = i;
+    }
+}
+
+/* No two copies over half of the capacity share a window. */
+static uint64_t fill_windows(const struct copies *copies, uint64_t capacity, uint64_t least,
+                             uint32_t *windows)
+{
+    struct search s;
+    s.n = copies->n;
+    s.capacity = (uint32_t)capacity;
+    s.windows = windows;
+    sort_copies(&s, copies);
+    size_t halves = 0;
+    while (halves < s.n && s.sizes[halves] > capacity / 2)
+        halves++;
+    uint64_t rest = 0;
+    for (size_t i = s.n; i-- > 0;) {
+        s.rest[i] = rest += s.sizes[i];
+        s.rooms[i] = s.capacity;
+    }
+    s.most = greater(least, halves);
+    while (!place_from(&s, 0, 0, 0))
+        s.most++;
+    return s.most;
+}
+
+const struct parts tuned_parts = {fill_bests, map_family, map_table, sum_of_images, floor_blocks,
+                                  fill_windows};

@@ -2,6 +2,9 @@
  * blocks, which share no windows, also the floor of each block and their total; or the cuts that the steps
  * given make of all rows of a model, in one job.
  *
+ * Of a list of at most 10 copies in all it also prints the fewest windows and the sizes in each of them: of
+ * the whole list, as if it had no blocks, and where it has some, of each block too.
+ *
  *     planner CAPACITY SIZE[xCOUNT]... [/ SIZE[xCOUNT]...]...
  *                                             5x300 is a size of 5 with 300 copies; without a count, one.
  *                                             A / ends a block: 7 5 / 7 5 / 5 is three of them
@@ -590,6 +593,53 @@ static void print_floors(const uint32_t *floors, size_t blocks, uint64_t total)
     printf(", total %" PRIu64 "\n", total);
 }
 
+/* The exact answer */
+
+static int is_short(const struct list *list)
+{
+    uint64_t copies = 0;
+    for (size_t i = 0; i < list->n; i++)
+        copies += list->counts[i];
+    return copies <= WINDOWFLOOR_MOST_COPIES;
+}
+
+/* The sizes of the copies that have this window, of n sizes from the first on. */
+static void print_window(const struct list *list, size_t first, size_t n, const uint32_t *windows,
+                         uint64_t window)
+{
+    printf("  window %" PRIu64 ":", window + 1);
+    for (size_t i = first; i < first + n; i++)
+        for (uint16_t copy = 0; copy < list->counts[i]; copy++)
+            if (*windows++ == window)
+                printf(" %" PRIu32, list->sizes[i]);
+    printf("\n");
+}
+
+static uint64_t print_fewest(const struct list *list, size_t first, size_t n)
+{
+    uint32_t windows[WINDOWFLOOR_EXACT_WINDOWS];
+    struct windowfloor_exact_answer answer =
+        windowfloor_exact(list->capacity, list->sizes + first, n, list->counts + first, n, windows,
+                          WINDOWFLOOR_EXACT_WINDOWS);
+    stop_if_refused("exact", answer.number, 0, 0);
+    printf("fewest windows: %" PRIu64 "\n", answer.fewest);
+    for (uint64_t window = 0; window < answer.fewest; window++)
+        print_window(list, first, n, windows, window);
+    return answer.fewest;
+}
+
+static void print_fewest_of_blocks(const struct list *list)
+{
+    uint64_t total = 0;
+    size_t first = 0;
+    for (size_t i = 0; i <= list->ended; i++) {
+        printf("block %zu, ", i + 1);
+        total += print_fewest(list, first, list->block_sizes[i]);
+        first += list->block_sizes[i];
+    }
+    printf("fewest windows of all blocks: %" PRIu64 "\n", total);
+}
+
 static void plan_list(const struct list *list)
 {
     static uint32_t images[WINDOWFLOOR_JOB_IMAGES], floors[WINDOWFLOOR_JOB_BLOCKS];
@@ -601,9 +651,13 @@ static void plan_list(const struct list *list)
     printf("  %-19s           floor %" PRIu64 "\n", families[0], without);
     struct step best = best_step(list, without);
     print_best(best);
+    if (is_short(list))
+        print_fewest(list, 0, list->n);
     if (has_blocks(list)) {
         uint64_t total = run_list(WINDOWFLOOR_KIND_FLOOR, list, best, images, floors).total;
         print_floors(floors, list->ended + 1, total);
+        if (is_short(list))
+            print_fewest_of_blocks(list);
     }
     struct windowfloor_job_answer cut = run_list(WINDOWFLOOR_KIND_CUT, list, best, images, floors);
     printf("cut:");

@@ -20,15 +20,16 @@ extern "C" {
 #endif
 
 /* The version of this header and of the library: CHANGELOG.md says what came with it. */
-#define WINDOWFLOOR_VERSION "4.1.0"
+#define WINDOWFLOOR_VERSION "4.2.0"
 
 /* Limits: unsigned constants. Twice the first of them takes 64 bits. */
 #define WINDOWFLOOR_LIMIT 4000000000u     /* the greatest capacity, parameter, scale and table entry */
 #define WINDOWFLOOR_FAMILIES 7u           /* families are 1 to 7 */
 #define WINDOWFLOOR_SWEEP_FAMILIES 5u     /* those without q, 1 to 5, can be swept */
 #define WINDOWFLOOR_MOST_ENTRIES 2048u    /* entries of a table; its capacity is one less */
-#define WINDOWFLOOR_MOST_SIZES 2048u      /* sizes of a job or of a sweep, coefficients of all rows */
+#define WINDOWFLOOR_MOST_SIZES 2048u      /* sizes of a list, coefficients of all rows */
 #define WINDOWFLOOR_MOST_COUNT 65535u     /* copies of a size; the least is 1 */
+#define WINDOWFLOOR_MOST_COPIES 10u       /* copies in all of a list whose fewest windows are asked */
 #define WINDOWFLOOR_MOST_ROWS 64u         /* rows of a job of kind 3 */
 #define WINDOWFLOOR_MOST_BLOCKS 64u       /* blocks of a job of kind 1 */
 #define WINDOWFLOOR_MOST_STEPS 8u         /* steps of a job */
@@ -39,6 +40,7 @@ extern "C" {
 #define WINDOWFLOOR_JOB_LIST 2047u        /* least places of a job's list buffer */
 #define WINDOWFLOOR_JOB_SCALES 64u        /* least places of a job's buffer for scales */
 #define WINDOWFLOOR_JOB_BLOCKS 64u        /* least places of a job's buffer for block floors */
+#define WINDOWFLOOR_EXACT_WINDOWS 10u     /* least places of the buffer for each copy's window */
 
 /* The bytes of a job: fields of a tag, a two-byte length and a value. Tags 1, 2, 3 once each in this
  * order, in kind 1 then a tag 7 or none and a tag 8 or none, then 0 to 8 steps; in kind 3 tag 1, then 1 to
@@ -67,7 +69,7 @@ enum {
     WINDOWFLOOR_BAD_PARAMETER = 3,
     WINDOWFLOOR_SCALE_TOO_LARGE = 4,
     WINDOWFLOOR_SIZE_OVER_CAPACITY = 5,
-    WINDOWFLOOR_BAD_COUNT = 6, /* of a table's entries, or of a sweep's sizes or counts */
+    WINDOWFLOOR_BAD_COUNT = 6, /* of a table's entries, or outside of a job of a list's sizes or counts */
     WINDOWFLOOR_SHORT_BUFFER = 7,
     WINDOWFLOOR_FIRST_ENTRY_NOT_0 = 8,
     WINDOWFLOOR_LAST_ENTRY_0 = 9,
@@ -84,9 +86,10 @@ enum {
     WINDOWFLOOR_NO_LEGAL_P = 20,
     WINDOWFLOOR_BAD_ROWS = 21, /* of kind 3: none, too many, or too many coefficients in all */
     WINDOWFLOOR_COUNT_0 = 22,
-    WINDOWFLOOR_BAD_BLOCKS = 23
+    WINDOWFLOOR_BAD_BLOCKS = 23,
+    WINDOWFLOOR_TOO_MANY_COPIES = 24
 };
-#define WINDOWFLOOR_LAST_REFUSAL 23u /* the greatest of them */
+#define WINDOWFLOOR_LAST_REFUSAL 24u /* the greatest of them */
 
 /* A number of refusal in words, for messages; defined for every number. */
 static inline const char *windowfloor_refusal_text(uint64_t number)
@@ -98,7 +101,7 @@ static inline const char *windowfloor_refusal_text(uint64_t number)
         "p or q is not legal for the family",
         "the scale would pass the limit",
         "the size is over the capacity",
-        "a table has too few or too many entries, or a sweep too many sizes or not as many counts",
+        "a table has too few or too many entries, or a list too many sizes or not as many counts",
         "a lent buffer is too short",
         "the table's first entry is not 0",
         "the table's last entry is 0",
@@ -115,7 +118,8 @@ static inline const char *windowfloor_refusal_text(uint64_t number)
         "no p of the range is legal with a scale within the limit",
         "a job of rows has no row, too many rows, or too many coefficients",
         "a count is 0",
-        "a block has no sizes, there are too many blocks, or they do not add up to the sizes"
+        "a block has no sizes, there are too many blocks, or they do not add up to the sizes",
+        "the list has more than 10 copies in all"
     };
     return number < sizeof texts / sizeof *texts ? texts[number] : "unknown number of refusal";
 }
@@ -194,6 +198,26 @@ struct windowfloor_sweep_answer windowfloor_sweep(uint64_t capacity, uint8_t fam
                                                   const uint32_t *sizes, size_t n,
                                                   const uint16_t *counts, size_t counts_length,
                                                   uint64_t low, uint64_t high);
+
+/* The fewest windows that a short list needs, at most 10 copies in all, and an assignment that uses no more.
+ * `counts` has one count for each size, as in a sweep. `windows` has at least WINDOWFLOOR_EXACT_WINDOWS
+ * places, whatever the list.
+ * Refusals, in order: 1, 6, 17, 22, 24, 7.
+ * Accepted: the first places of `windows`, one for each copy in list order, all copies of a size before the
+ * next size, hold the copy's window: numbers from 0 on and below `fewest`, each of them used. No window has
+ * copies of more than the capacity, and every other assignment of which that is true uses at least `fewest`
+ * windows; which of the best is shown may change from release to release. The empty list needs 0 windows.
+ * No floor, of a job or of a sweep, of the same list and capacity is above `fewest`. A refusal leaves
+ * `windows` as it was. */
+struct windowfloor_exact_answer {
+    uint64_t number;
+    uint64_t fewest;
+};
+
+struct windowfloor_exact_answer windowfloor_exact(uint64_t capacity,
+                                                  const uint32_t *sizes, size_t n,
+                                                  const uint16_t *counts, size_t counts_length,
+                                                  uint32_t *windows, size_t windows_places);
 
 #ifdef __cplusplus
 }

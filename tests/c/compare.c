@@ -1,10 +1,12 @@
-/* Compares the library with the reference on random inputs, on the largest, and on jobs with fields of
- * many lengths and with counts and blocks in many places: every field of the answers, every place of the
- * buffers, and the places before and behind them.
+/* Compares the library with the reference on random inputs, on the largest, on jobs with fields of many
+ * lengths and with counts and blocks in many places, and on exact inputs with every choice of refusals: every
+ * field of the answers, every place of the buffers, and the places before and behind them. Of the windows of
+ * copies, which are free, it looks whether they fit; and no floor of the same list may be above their number.
  *
  *     compare [SEED [ROUNDS]]
  *
- * A round is 12 images, 6 tables, 9 jobs and 3 sweeps. */
+ * A round is 12 images, 6 tables, 9 jobs, 3 sweeps and 3 exact inputs, with a sweep and a job of the list
+ * of each that is accepted. */
 #define _DEFAULT_SOURCE /* for MAP_ANONYMOUS */
 
 #include <stdio.h>
@@ -12,6 +14,7 @@
 #include <string.h>
 #include <sys/mman.h>
 
+#include "assignment.h"
 #include "inputs.h"
 #include "reference.h"
 
@@ -21,23 +24,24 @@ enum { MOST_PRINTED = 16384 }; /* bytes of an input: all of a sweep */
 
 /* Jobs whose fourth byte is 3 are counted as rows; numbers that name a row are counted once more. For 18,
  * which goes before 8 to 11, what the table check says of the table is counted, for each kind. Refusals for
- * a field of tag 7 or 8 are counted for each kind. Jobs with counts are counted once more, and so are jobs
- * and sweeps with a count of 0; and jobs with blocks, and with wrong ones. For 22, and for 6 where there are
- * not as many counts as sizes, what the same input would give with ones is counted; for 23, what the job
- * would give without its tag 8. */
+ * a field of tag 7 or 8 are counted for each kind. Jobs with counts are counted once more, and so is what has
+ * a count of 0; and jobs with blocks, and with wrong ones. For 22, and for 6 where there are not as many
+ * counts as sizes, what the same input would give with ones is counted; for 23, what the job would give
+ * without its tag 8. */
 enum tally {
-    IMAGE, TABLE, JOB, ROWS, SWEEP, OPERATIONS,
+    IMAGE, TABLE, JOB, ROWS, SWEEP, EXACT, OPERATIONS,
     ROW_1 = OPERATIONS, LATER_ROW, BEHIND_18, LAST_BEHIND_18 = BEHIND_18 + 2,
     AT_TAG_7, LAST_AT_TAG_7 = AT_TAG_7 + 3, AT_TAG_8, LAST_AT_TAG_8 = AT_TAG_8 + 3,
-    COUNTED_JOB, COUNT_0_IN_JOB, COUNT_0_IN_SWEEP, BEHIND_22_OF_JOB, BEHIND_22_OF_SWEEP, FEWER_COUNTS,
-    MORE_COUNTS, JOB_IN_BLOCKS, WRONG_BLOCKS, BEHIND_23, TALLIES
+    COUNTED_JOB, COUNT_0_IN_JOB, COUNT_0_IN_SWEEP, COUNT_0_IN_EXACT, BEHIND_22_OF_JOB, BEHIND_22_OF_SWEEP,
+    BEHIND_22_OF_EXACT, FEWER_COUNTS, MORE_COUNTS, FEWER_COUNTS_OF_EXACT, MORE_COUNTS_OF_EXACT,
+    JOB_IN_BLOCKS, WRONG_BLOCKS, BEHIND_23, TALLIES
 };
 
 static const char *const names[TALLIES] = {
-    "image", "table check", "job", "job of rows", "sweep", "  in row 1", "  later row",
+    "image", "table check", "job", "job of rows", "sweep", "exact", "  in row 1", "  later row",
     "  floor", "  cut", "  rows", "  floor", "  cut", "  rows", "  no kind",
-    "  floor", "  cut", "  rows", "  no kind", "  all", "  job", "  sweep",
-    "  job", "  sweep", "  fewer", "  more", "  all", "  wrong", "  job",
+    "  floor", "  cut", "  rows", "  no kind", "  all", "  job", "  sweep", "  exact",
+    "  job", "  sweep", "  exact", "  fewer", "  more", "  fewer", "  more", "  all", "  wrong", "  job",
 };
 
 /* Accepted jobs: those of several rows by what the steps make of the right sides. */
@@ -92,6 +96,31 @@ enum kind { KIND_FLOOR, KIND_CUT, KIND_ROWS, NO_KIND, KINDS };
 static const char *const buffer_names[BUFFERS] = {"images", "working", "list", "scales", "blocks"};
 static const char *const kind_names[KINDS] = {"floor", "cut", "rows", "no kind"};
 
+/* Accepted exact inputs: one can be of several sorts. First fit puts each copy into the first window that has
+ * room; decreasing, it takes the larger copies first. */
+enum exact_sort {
+    COPIES_BY_SIZES, COPIES_BY_COUNTS, ALL_WINDOWS_FULL, FEWEST_OVER_TOTAL, FIRST_FIT_OVER, DECREASING_OVER,
+    TOTAL_OVER_32_BITS, LEAST_PLACES, MORE_PLACES, EXACT_SORTS
+};
+
+static const char *const exact_sort_names[EXACT_SORTS] = {
+    "by sizes", "by counts", "full windows", "over the total", "under first fit", "under decreasing",
+    "total over 32 bits", "10 places", "more places",
+};
+
+/* Exact inputs refused with 24: one copy too many, or so many that 16 bits would have 10 or fewer; with a
+ * buffer that is long enough or too short. */
+enum too_many { ELEVEN, FEW_IN_16_BITS, LONG_BUFFER, ALSO_SHORT_BUFFER, TOO_MANY };
+
+static const char *const too_many_names[TOO_MANY] = {"11", "few in 16 bits", "long buffer", "short buffer"};
+
+/* Floors of a list whose fewest windows are known. */
+enum floor_of { FLOOR_OF_SWEEP, FLOOR_OF_JOB, FLOORS };
+enum floor_is { FLOOR_BELOW, FLOOR_REACHED, FLOOR_IS };
+
+static const char *const floor_names[FLOORS] = {"  sweep", "  job  "};
+static const char *const floor_is_names[FLOOR_IS] = {"below", "reached"};
+
 /* Thresholds whose 2 * p is the capacity + 1, by where they are accepted, and images that are refused with a
  * p one over. */
 enum half { IN_IMAGE, IN_FIRST_STEP, IN_LATER_STEP, IN_SWEEP, ONE_OVER, HALVES };
@@ -137,7 +166,7 @@ static const char *const wide_sweep_names[WIDES_IN_SWEEP] = {"capacity", "p"};
 /* What the limit bounds, at the numbers about the limit and at the last of 32 bits, and which number of
  * refusal is due there. The greatest legal q has a scale over the limit. */
 enum bounded {
-    CAPACITY_OF_IMAGE, CAPACITY_OF_LIST, RIGHT_SIDE, CAPACITY_OF_SWEEP,
+    CAPACITY_OF_IMAGE, CAPACITY_OF_LIST, RIGHT_SIDE, CAPACITY_OF_SWEEP, CAPACITY_OF_EXACT,
     P_OF_IMAGE, Q_OF_IMAGE, SCALE_OF_IMAGE, P_OF_STEP_1, Q_OF_STEP_1, SCALE_OF_STEP_1,
     P_OF_LATER_STEP, Q_OF_LATER_STEP, SCALE_OF_LATER_STEP, P_OF_SWEEP,
     ENTRY_OF_TABLE, ENTRY_OF_STEP_1, ENTRY_OF_LATER_STEP, BOUNDED
@@ -156,6 +185,7 @@ static const struct {
     [CAPACITY_OF_LIST] = {"  capacity of a list     ", {0, 0, 1, 1}},
     [RIGHT_SIDE] = {"  right side of a row    ", {0, 0, 1, 1}},
     [CAPACITY_OF_SWEEP] = {"  capacity of a sweep    ", {0, 0, 1, 1}},
+    [CAPACITY_OF_EXACT] = {"  capacity, exact        ", {0, 0, 1, 1}},
     [P_OF_IMAGE] = {"  p of an image          ", {0, 0, 3, 3}},
     [Q_OF_IMAGE] = {"  q of an image          ", {0, 4, 3, 3}},
     [SCALE_OF_IMAGE] = {"  scale of an image      ", {0, 0, 4, 4}},
@@ -191,9 +221,13 @@ static unsigned long refused_wide_images[WINDOWFLOOR_FAMILIES + 1][REFUSED_WIDES
 static unsigned long wide_jobs[KINDS][WIDES_IN_JOB], wide_tables[WIDES_IN_TABLE];
 static unsigned long wide_sweeps[WINDOWFLOOR_SWEEP_FAMILIES + 1][WIDES_IN_SWEEP];
 static unsigned long at_borders[BOUNDED][BORDERS];
+static unsigned long fewest_windows[WINDOWFLOOR_MOST_COPIES + 1];
+static unsigned long numbers_of_copies[WINDOWFLOOR_MOST_COPIES + 1];
+static unsigned long exact_sorts[EXACT_SORTS], too_many_copies[TOO_MANY];
+static unsigned long floors_of_lists[FLOORS][FLOOR_IS];
 
 /* Inputs lie right before memory that cannot be read, so that a read past their end is a crash. Two edges
- * are for the two inputs of a sweep. */
+ * are for the sizes and the counts of a list. */
 
 static uint8_t *first_edge, *second_edge;
 
@@ -211,6 +245,27 @@ static uint8_t *new_edge(void)
 static void *at_edge(uint8_t *edge, const void *input, size_t bytes)
 {
     return memcpy(edge - bytes, input, bytes);
+}
+
+/* A list that lies there, and what it is a copy of. */
+struct laid_list {
+    const struct counted_list *from;
+    const uint32_t *sizes;
+    const uint16_t *counts;
+};
+
+static struct laid_list lay(const struct counted_list *list)
+{
+    struct laid_list laid = {list, at_edge(first_edge, list->sizes, list->n * sizeof *list->sizes),
+                             at_edge(second_edge, list->counts, list->counts_length * sizeof *list->counts)};
+    return laid;
+}
+
+static int stays(const struct laid_list *laid)
+{
+    const struct counted_list *from = laid->from;
+    return memcmp(laid->sizes, from->sizes, from->n * sizeof *from->sizes) == 0
+        && memcmp(laid->counts, from->counts, from->counts_length * sizeof *from->counts) == 0;
 }
 
 /* A buffer, lent once to the library and once to the reference. Both start out the same. */
@@ -944,7 +999,8 @@ static void count_job(const struct job_input *in, const struct windowfloor_job_a
         count_refusal(in, answer);
 }
 
-static void compare_job(const struct job_input *in)
+/* Answers the floor. */
+static uint64_t compare_job(const struct job_input *in)
 {
     static struct lent_to_job lent;
     const uint8_t *job = at_edge(first_edge, in->bytes, in->length);
@@ -964,61 +1020,218 @@ static void compare_job(const struct job_input *in)
     judge(is_rows(in) ? ROWS : JOB, &library, &reference, sizeof library,
           same_after_job(&lent) && memcmp(job, in->bytes, in->length) == 0, in->bytes, in->length);
     count_job(in, &library, &lent);
+    return library.floor;
 }
 
 /* Of the floor that a sweep has found: its quotient and counts, and its p. */
 static void count_sweep(const struct sweep_input *in, uint64_t p)
 {
+    const struct counted_list *list = &in->list;
     uint64_t sum = 0;
-    for (size_t i = 0; i < in->n; i++)
-        sum += in->counts[i] * reference_image(in->capacity, in->family, p, 0, in->sizes[i]).image;
+    for (size_t i = 0; i < list->n; i++)
+        sum += list->counts[i] * reference_image(in->capacity, in->family, p, 0, list->sizes[i]).image;
     count_rounded(OF_SWEEP, sum, reference_image(in->capacity, in->family, p, 0, 0).scale);
-    count_sorts(counted[1], in->counts, in->n, sum);
+    count_sorts(counted[1], list->counts, list->n, sum);
     halves[IN_SWEEP] += is_threshold(in->capacity, in->family, p, 1);
     wide_sweeps[in->family][SWEEP_CAPACITY] += in->capacity > OLD_LIMIT;
     wide_sweeps[in->family][SWEEP_P] += p > OLD_LIMIT;
 }
 
-/* What the sweep's number would be if there were a count of 1 for each size. */
-static uint64_t sweep_with_ones(const struct sweep_input *in)
+/* A list with the sizes of another and a one for each. */
+static const struct counted_list *with_ones(const struct counted_list *list)
 {
-    static uint16_t ones[ROOM_SIZES];
-    for (size_t i = 0; i < in->n; i++)
-        ones[i] = 1;
-    return reference_sweep(in->capacity, in->family, in->sizes, in->n, ones, in->n, in->low,
-                           in->high).number;
+    static struct counted_list ones;
+    ones = *list;
+    ones.counts_length = list->n;
+    for (size_t i = 0; i < list->n; i++)
+        ones.counts[i] = 1;
+    return &ones;
 }
 
-static void count_refused_sweep(const struct sweep_input *in, uint64_t number)
+/* The numbers that a sweep and an exact input would have with these lists. */
+static uint64_t number_of_sweep(const struct sweep_input *in, const struct counted_list *list)
 {
-    if (some_number(in->counts, in->counts_length, 0, 0))
-        seen[COUNT_0_IN_SWEEP][number]++;
+    return reference_sweep(in->capacity, in->family, list->sizes, list->n, list->counts, list->counts_length,
+                           in->low, in->high).number;
+}
+
+static uint64_t number_of_exact(const struct exact_input *in, const struct counted_list *list)
+{
+    uint32_t windows[WINDOWFLOOR_MOST_COPIES];
+    return reference_exact(in->capacity, list->sizes, list->n, list->counts, list->counts_length, windows,
+                           in->windows_places).number;
+}
+
+/* Of a refused list: a count of 0, and the number with ones behind 22 and behind 6. */
+static void count_refused_list(const struct counted_list *list, uint64_t number, uint64_t number_with_ones,
+                               enum tally count_0, enum tally behind_22, enum tally fewer)
+{
+    if (some_number(list->counts, list->counts_length, 0, 0))
+        seen[count_0][number]++;
     if (number == WINDOWFLOOR_COUNT_0)
-        seen[BEHIND_22_OF_SWEEP][sweep_with_ones(in)]++;
-    if (number == WINDOWFLOOR_BAD_COUNT && in->counts_length != in->n)
-        seen[in->counts_length < in->n ? FEWER_COUNTS : MORE_COUNTS][sweep_with_ones(in)]++;
+        seen[behind_22][number_with_ones]++;
+    if (number == WINDOWFLOOR_BAD_COUNT && list->counts_length != list->n)
+        seen[list->counts_length < list->n ? fewer : fewer + 1][number_with_ones]++;
 }
 
-static void compare_sweep(const struct sweep_input *in)
+/* Answers the floor. */
+static uint64_t compare_sweep(const struct sweep_input *in)
 {
-    size_t bytes = in->n * sizeof *in->sizes, counts_bytes = in->counts_length * sizeof *in->counts;
-    const uint32_t *sizes = at_edge(first_edge, in->sizes, bytes);
-    const uint16_t *counts = at_edge(second_edge, in->counts, counts_bytes);
+    size_t n = in->list.n, counts_length = in->list.counts_length;
+    struct laid_list laid = lay(&in->list);
     struct windowfloor_sweep_answer library =
-        windowfloor_sweep(in->capacity, in->family, sizes, in->n, counts, in->counts_length, in->low,
+        windowfloor_sweep(in->capacity, in->family, laid.sizes, n, laid.counts, counts_length, in->low,
                           in->high);
     struct windowfloor_sweep_answer reference =
-        reference_sweep(in->capacity, in->family, sizes, in->n, counts, in->counts_length, in->low,
+        reference_sweep(in->capacity, in->family, laid.sizes, n, laid.counts, counts_length, in->low,
                         in->high);
-    judge(SWEEP, &library, &reference, sizeof library,
-          memcmp(sizes, in->sizes, bytes) == 0 && memcmp(counts, in->counts, counts_bytes) == 0,
-          in, sizeof *in);
+    judge(SWEEP, &library, &reference, sizeof library, stays(&laid), in, sizeof *in);
     count_border(CAPACITY_OF_SWEEP, in->capacity, library.number);
     count_border(P_OF_SWEEP, library.number == 0 ? library.p : in->low, library.number);
     if (library.number == 0)
         count_sweep(in, library.p);
     else
-        count_refused_sweep(in, library.number);
+        count_refused_list(&in->list, library.number, number_of_sweep(in, with_ones(&in->list)),
+                           COUNT_0_IN_SWEEP, BEHIND_22_OF_SWEEP, FEWER_COUNTS);
+    return library.floor;
+}
+
+/* The windows of first fit. */
+static unsigned first_fit(uint64_t capacity, const uint32_t *copies, size_t n)
+{
+    uint64_t loads[WINDOWFLOOR_MOST_COPIES] = {0};
+    unsigned used = 0;
+    for (size_t i = 0; i < n; i++) {
+        unsigned window = 0;
+        while (loads[window] + copies[i] > capacity)
+            window++;
+        loads[window] += copies[i];
+        used = window == used ? used + 1 : used;
+    }
+    return used;
+}
+
+static int by_falling_size(const void *a, const void *b)
+{
+    uint32_t first = *(const uint32_t *)a, second = *(const uint32_t *)b;
+    return (first < second) - (first > second);
+}
+
+static uint64_t total_of(const uint32_t *copies, size_t n)
+{
+    uint64_t total = 0;
+    for (size_t i = 0; i < n; i++)
+        total += copies[i];
+    return total;
+}
+
+static void count_accepted_exact(const struct exact_input *in, uint32_t *copies, size_t n, uint64_t fewest)
+{
+    uint64_t total = total_of(copies, n);
+    fewest_windows[fewest]++;
+    numbers_of_copies[n]++;
+    exact_sorts[n == in->list.n ? COPIES_BY_SIZES : COPIES_BY_COUNTS]++;
+    exact_sorts[ALL_WINDOWS_FULL] += n > 0 && total == fewest * in->capacity;
+    exact_sorts[FEWEST_OVER_TOTAL] += total <= (fewest - (n > 0)) * in->capacity;
+    exact_sorts[FIRST_FIT_OVER] += first_fit(in->capacity, copies, n) > fewest;
+    qsort(copies, n, sizeof *copies, by_falling_size);
+    exact_sorts[DECREASING_OVER] += first_fit(in->capacity, copies, n) > fewest;
+    exact_sorts[TOTAL_OVER_32_BITS] += total > UINT32_MAX;
+    exact_sorts[in->windows_places == WINDOWFLOOR_EXACT_WINDOWS ? LEAST_PLACES : MORE_PLACES]++;
+}
+
+static void count_too_many(const struct exact_input *in)
+{
+    uint64_t total = 0;
+    for (size_t i = 0; i < in->list.n; i++)
+        total += in->list.counts[i];
+    too_many_copies[ELEVEN] += total == WINDOWFLOOR_MOST_COPIES + 1;
+    too_many_copies[FEW_IN_16_BITS] += (uint16_t)total <= WINDOWFLOOR_MOST_COPIES;
+    too_many_copies[in->windows_places < WINDOWFLOOR_EXACT_WINDOWS ? ALSO_SHORT_BUFFER : LONG_BUFFER]++;
+}
+
+static void count_refused_exact(const struct exact_input *in, uint64_t number)
+{
+    count_refused_list(&in->list, number, number_of_exact(in, with_ones(&in->list)), COUNT_0_IN_EXACT,
+                       BEHIND_22_OF_EXACT, FEWER_COUNTS_OF_EXACT);
+    if (number == WINDOWFLOOR_TOO_MANY_COPIES)
+        count_too_many(in);
+}
+
+static void compare_floor(const struct exact_input *in, enum floor_of what, uint64_t floor, uint64_t fewest)
+{
+    if (floor > fewest) {
+        printf("exact gives fewer windows, %lu, than the floor of a %s, %lu\n", (unsigned long)fewest,
+               what == FLOOR_OF_SWEEP ? "sweep" : "job", (unsigned long)floor);
+        print_bytes(in, sizeof *in);
+        exit(1);
+    }
+    if (floor > 0) /* else it may be a refusal's */
+        floors_of_lists[what][floor == fewest ? FLOOR_REACHED : FLOOR_BELOW]++;
+}
+
+/* A sweep and a job of the list. */
+static void compare_floors(const struct exact_input *in, uint64_t fewest)
+{
+    static struct sweep_input sweep;
+    static struct job_input job;
+    memset(&sweep, 0, sizeof sweep);
+    sweep_of_list(&sweep, in->capacity, &in->list);
+    compare_floor(in, FLOOR_OF_SWEEP, compare_sweep(&sweep), fewest);
+    job_of_list(&job, in->capacity, &in->list);
+    compare_floor(in, FLOOR_OF_JOB, compare_job(&job), fewest);
+}
+
+/* Whether the library shows an assignment. Which it is is free, so its places become the reference's. */
+static int take_assignment(const struct exact_input *in, const uint32_t *copies, size_t n, uint64_t fewest,
+                           struct lent *windows)
+{
+    int fits = is_assignment(in->capacity, copies, n, library_places(windows), fewest);
+    memcpy(library_places(windows), reference_places(windows), n * sizeof(uint32_t));
+    return fits;
+}
+
+/* Of copies of 7, 3, 5 and 5 and a capacity of 10, what is an assignment to two windows and what is none: too
+ * full, a number past the last, a window without a copy, one too many. */
+static void check_assignments(void)
+{
+    static const uint32_t copies[] = {7, 3, 5, 5};
+    static const struct { uint32_t windows[4]; int right; } shown[] = {
+        {{0, 0, 1, 1}, 1}, {{1, 1, 0, 0}, 1}, {{0, 1, 1, 0}, 0}, {{0, 0, 2, 2}, 0}, {{1, 1, 2, 2}, 0},
+        {{0, 0, 0, 0}, 0}, {{0, 0, 1, 2}, 0}, {{UINT32_MAX, UINT32_MAX, 0, 0}, 0},
+    };
+    for (size_t i = 0; i < sizeof shown / sizeof *shown; i++)
+        if (is_assignment(10, copies, 4, shown[i].windows, 2) != shown[i].right) {
+            printf("is_assignment is wrong about the windows at %zu\n", i);
+            exit(1);
+        }
+}
+
+static void compare_exact(const struct exact_input *in)
+{
+    static struct lent windows;
+    uint32_t copies[WINDOWFLOOR_MOST_COPIES];
+    size_t n = 0;
+    struct laid_list laid = lay(&in->list);
+    lend(&windows, sizeof(uint32_t), in->windows_places);
+    struct windowfloor_exact_answer library =
+        windowfloor_exact(in->capacity, laid.sizes, in->list.n, laid.counts, in->list.counts_length,
+                          library_places(&windows), in->windows_places);
+    struct windowfloor_exact_answer reference =
+        reference_exact(in->capacity, laid.sizes, in->list.n, laid.counts, in->list.counts_length,
+                        reference_places(&windows), in->windows_places);
+    if (reference.number == 0)
+        n = write_copies(laid.sizes, in->list.n, laid.counts, copies);
+    int fits = take_assignment(in, copies, n, reference.fewest, &windows);
+    judge(EXACT, &library, &reference, sizeof library, fits && same_buffers(&windows) && stays(&laid), in,
+          sizeof *in);
+    count_border(CAPACITY_OF_EXACT, in->capacity, library.number);
+    if (library.number != 0) {
+        count_refused_exact(in, library.number);
+        return;
+    }
+    count_accepted_exact(in, copies, n, library.fewest);
+    compare_floors(in, library.fewest);
 }
 
 static void compare_lengths(unsigned kind, size_t from, size_t to)
@@ -1147,6 +1360,23 @@ static void compare_largest_blocks(void)
     }
 }
 
+/* Every choice of the six refusals, and numbers of sizes, of counts and of places about their limits. */
+static void compare_exact_edges(void)
+{
+    static const size_t numbers[] = {0, 1, 9, 10, 11, 2047, 2048, 2049}, places[] = {0, 1, 9, 10, 11, 40};
+    static struct exact_input in;
+    for (unsigned faults = 0; faults < 1u << EXACT_FAULTS; faults++) {
+        exact_of_faults(&in, faults);
+        compare_exact(&in);
+    }
+    for (size_t i = 0; i < sizeof numbers / sizeof *numbers; i++)
+        for (size_t k = 0; k < sizeof places / sizeof *places; k++)
+            for (size_t more = numbers[i] == 0; more < 3; more++) {
+                exact_of_lengths(&in, numbers[i], numbers[i] + more - 1, places[k]);
+                compare_exact(&in);
+            }
+}
+
 static void compare_chains_at_limit(void)
 {
     static struct job_input job;
@@ -1189,6 +1419,7 @@ static void compare_round(void)
 {
     static struct job_input job;
     static struct sweep_input sweep;
+    static struct exact_input exact;
     for (int i = 0; i < 12; i++)
         compare_image();
     for (int i = 0; i < 6; i++)
@@ -1200,6 +1431,10 @@ static void compare_round(void)
     for (int i = 0; i < 3; i++) {
         random_sweep(&sweep);
         compare_sweep(&sweep);
+    }
+    for (int i = 0; i < 3; i++) {
+        random_exact(&exact);
+        compare_exact(&exact);
     }
 }
 
@@ -1215,6 +1450,7 @@ static const unsigned char due[TALLIES][NUMBERS] = {
     [ROWS] = {[0] = 1, [1] = 1, [2] = 1, [3] = 1, [4] = 1, [7] = 1, [8] = 1, [9] = 1, [10] = 1,
               [11] = 1, [12] = 1, [13] = 1, [14] = 1, [15] = 1, [17] = 1, [18] = 1, [21] = 1},
     [SWEEP] = {[0] = 1, [1] = 1, [2] = 1, [6] = 1, [17] = 1, [19] = 1, [20] = 1, [22] = 1},
+    [EXACT] = {[0] = 1, [1] = 1, [6] = 1, [7] = 1, [17] = 1, [22] = 1, [24] = 1},
     [ROW_1] = {[1] = 1, [2] = 1, [3] = 1, [4] = 1, [8] = 1, [9] = 1, [10] = 1, [11] = 1, [17] = 1,
                [18] = 1},
     [LATER_ROW] = {[1] = 1, [3] = 1, [4] = 1, [17] = 1, [18] = 1},
@@ -1233,10 +1469,14 @@ static const unsigned char due[TALLIES][NUMBERS] = {
                      [17] = 1, [18] = 1, [22] = 1},
     [COUNT_0_IN_JOB] = {[1] = 1, [17] = 1, [22] = 1},
     [COUNT_0_IN_SWEEP] = {[1] = 1, [2] = 1, [6] = 1, [17] = 1, [22] = 1},
+    [COUNT_0_IN_EXACT] = {[1] = 1, [6] = 1, [17] = 1, [22] = 1},
     [BEHIND_22_OF_JOB] = {[0] = 1, [3] = 1, [4] = 1, [8] = 1, [9] = 1, [11] = 1, [18] = 1},
     [BEHIND_22_OF_SWEEP] = {[0] = 1, [19] = 1, [20] = 1},
+    [BEHIND_22_OF_EXACT] = {[0] = 1, [7] = 1, [24] = 1},
     [FEWER_COUNTS] = {[0] = 1, [17] = 1, [19] = 1, [20] = 1},
     [MORE_COUNTS] = {[0] = 1, [17] = 1, [19] = 1, [20] = 1},
+    [FEWER_COUNTS_OF_EXACT] = {[0] = 1, [7] = 1, [17] = 1, [24] = 1},
+    [MORE_COUNTS_OF_EXACT] = {[0] = 1, [7] = 1, [17] = 1, [24] = 1},
     [JOB_IN_BLOCKS] = {[0] = 1, [1] = 1, [2] = 1, [3] = 1, [4] = 1, [8] = 1, [9] = 1, [10] = 1, [11] = 1,
                        [17] = 1, [18] = 1, [22] = 1, [23] = 1},
     [WRONG_BLOCKS] = {[1] = 1, [17] = 1, [22] = 1, [23] = 1},
@@ -1280,12 +1520,13 @@ static unsigned long report_operations(int *lacking)
     return inputs;
 }
 
-static void report_steps(const char *what, const unsigned long *counts, int *lacking)
+/* Each number from 0 is due. */
+static void report_each(const char *what, const unsigned long *counts, int numbers, int *lacking)
 {
     printf("%s", what);
-    for (int steps = 0; steps < STEPS; steps++) {
-        printf("  %d:%lu", steps, counts[steps]);
-        if (counts[steps] == 0)
+    for (int number = 0; number < numbers; number++) {
+        printf("  %d:%lu", number, counts[number]);
+        if (counts[number] == 0)
             *lacking = printf(" MISSING");
     }
     printf("\n");
@@ -1367,6 +1608,18 @@ static void report_tallies(const char *what, enum tally first, enum tally last, 
         report(tally, lacking);
 }
 
+static void report_exact(int *lacking)
+{
+    const int most = WINDOWFLOOR_MOST_COPIES + 1;
+    report_named("exact inputs refused with 24", too_many_names, too_many_copies, TOO_MANY, lacking);
+    report_each("accepted exact inputs by copies ", numbers_of_copies, most, lacking);
+    report_each("  by fewest windows             ", fewest_windows, most, lacking);
+    report_named("  by sort", exact_sort_names, exact_sorts, EXACT_SORTS, lacking);
+    printf("floors of their lists by the fewest windows\n");
+    for (int what = 0; what < FLOORS; what++)
+        report_named(floor_names[what], floor_is_names, floors_of_lists[what], FLOOR_IS, lacking);
+}
+
 static unsigned long report_all(int *lacking)
 {
     printf("inputs by number of refusal (0: accepted)\n");
@@ -1377,11 +1630,13 @@ static unsigned long report_all(int *lacking)
     report_tallies("jobs refused for a field of tag 7 by number", AT_TAG_7, LAST_AT_TAG_7, lacking);
     report_tallies("jobs refused for a field of tag 8 by number", AT_TAG_8, LAST_AT_TAG_8, lacking);
     report_tallies("jobs with counts by number", COUNTED_JOB, COUNTED_JOB, lacking);
-    report_tallies("a count of 0 by number", COUNT_0_IN_JOB, COUNT_0_IN_SWEEP, lacking);
-    report_tallies("refused with 22 by the number with ones", BEHIND_22_OF_JOB, BEHIND_22_OF_SWEEP,
+    report_tallies("a count of 0 by number", COUNT_0_IN_JOB, COUNT_0_IN_EXACT, lacking);
+    report_tallies("refused with 22 by the number with ones", BEHIND_22_OF_JOB, BEHIND_22_OF_EXACT,
                    lacking);
     report_tallies("sweeps refused for their number of counts by the number with ones", FEWER_COUNTS,
                    MORE_COUNTS, lacking);
+    report_tallies("exact inputs refused for it by the number with ones", FEWER_COUNTS_OF_EXACT,
+                   MORE_COUNTS_OF_EXACT, lacking);
     report_tallies("jobs with blocks by number", JOB_IN_BLOCKS, WRONG_BLOCKS, lacking);
     report_tallies("refused with 23 by the number without tag 8", BEHIND_23, BEHIND_23, lacking);
     report_named("refused with 23 by blocks", wrong_names, wrong_blocks, WRONGS, lacking);
@@ -1397,12 +1652,13 @@ static unsigned long report_all(int *lacking)
     report_named("tables over the old limit", wide_table_names, wide_tables, WIDES_IN_TABLE, lacking);
     report_wide_jobs(lacking);
     report_wide_sweeps(lacking);
+    report_exact(lacking);
     report_borders(lacking);
     report_named("accepted jobs by shape", shape_names, accepted_shapes, SHAPES, lacking);
-    report_steps("accepted jobs by steps  ", accepted_steps[0], lacking);
-    report_steps("  of rows               ", accepted_steps[1], lacking);
-    report_steps("refused jobs by step    ", refused_step[0], lacking);
-    report_steps("  of rows               ", refused_step[1], lacking);
+    report_each("accepted jobs by steps  ", accepted_steps[0], STEPS, lacking);
+    report_each("  of rows               ", accepted_steps[1], STEPS, lacking);
+    report_each("refused jobs by step    ", refused_step[0], STEPS, lacking);
+    report_each("  of rows               ", refused_step[1], STEPS, lacking);
     return inputs;
 }
 
@@ -1420,6 +1676,7 @@ static void compare_all(unsigned long rounds)
     compare_largest();
     compare_largest_blocks();
     compare_chains_at_limit();
+    compare_exact_edges();
     memcpy(before_rounds, seen, sizeof before_rounds);
     for (unsigned long i = 0; i < rounds; i++)
         compare_round();
@@ -1436,6 +1693,7 @@ int main(int argc, char **argv)
     first_edge = new_edge();
     second_edge = new_edge();
     make_pattern();
+    check_assignments();
     compare_all(rounds);
     unsigned long inputs = report_all(&lacking);
     printf("compare: %lu inputs, all the same%s\n", inputs, lacking ? ", but too narrow" : "");

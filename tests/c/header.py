@@ -2,8 +2,8 @@
 
 The numbers of refusal are the same in the header's enum, in the file TEXTS,
 where refusals.c has printed them with their texts, and in README.md; the newest
-version of CHANGELOG.md is the header's; and the limit's value stands once in the
-header. Exits with 1 if not."""
+version of CHANGELOG.md is the header's; the text of 24 has the most copies; and the
+limit's value stands once in the header. Exits with 1 if not."""
 
 import re
 import sys
@@ -42,6 +42,11 @@ def versions():
     return {"the header": constant("WINDOWFLOOR_VERSION"), "CHANGELOG.md": newest[1] if newest else None}
 
 
+def most_copies(texts):
+    return {"WINDOWFLOOR_MOST_COPIES": [int(constant("WINDOWFLOOR_MOST_COPIES"))],
+            "the text of 24": numbers(r"^24 .* (\d+) copies", texts)}
+
+
 def same(what, found):
     """Whether all are the same; tells them if not."""
     if all(value == next(iter(found.values())) for value in found.values()):
@@ -53,11 +58,13 @@ def same(what, found):
 
 
 def main():
+    texts = Path(sys.argv[1]).read_text()
     limit = HEADER.replace(",", "").count(constant("WINDOWFLOOR_LIMIT"))
-    results = [same("numbers of refusal", refusals(Path(sys.argv[1]).read_text())), same("versions", versions()),
+    results = [same("numbers of refusal", refusals(texts)), same("versions", versions()),
+               same("most copies", most_copies(texts)),
                same("count of the limit's value", {"wanted": 1, "the header": limit})]
     if all(results):
-        print("header: refusals, version and limit as they stand elsewhere")
+        print("header: refusals, version and limits as they stand elsewhere")
     return 0 if all(results) else 1
 
 

@@ -1141,36 +1141,60 @@ static void random_range(struct sweep_input *in, int at_border)
         in->high += high_bit();
 }
 
-static void put_sweep_sizes(struct sweep_input *in, size_t n)
+/* Lists of sweeps and of exact inputs */
+
+static void fill_sizes(struct counted_list *list, uint64_t capacity, size_t n)
 {
-    in->n = n;
+    list->n = n;
     for (size_t i = 0; i < n; i++)
-        in->sizes[i] = (uint32_t)random_size(in->capacity, 1);
+        list->sizes[i] = (uint32_t)random_size(capacity, 1);
 }
 
-static void put_sweep_counts(struct sweep_input *in, size_t length, int all_1)
+static void fill_counts(struct counted_list *list, size_t length, int all_1)
 {
-    in->counts_length = length;
+    list->counts_length = length;
     for (size_t i = 0; i < length; i++)
-        in->counts[i] = (uint16_t)(all_1 ? 1 : random_copies());
+        list->counts[i] = (uint16_t)(all_1 ? 1 : random_copies());
+}
+
+static void spoil_sizes(struct counted_list *list, uint64_t capacity)
+{
+    if (list->n > 0 && one_in(20))
+        list->sizes[below(list->n)] = (uint32_t)(one_in(2) ? 0 : word_over(capacity));
+}
+
+static void spoil_counts(struct counted_list *list)
+{
+    if (list->counts_length > 0 && one_in(20))
+        list->counts[below(list->counts_length)] = 0;
+}
+
+static void random_family_and_range(struct sweep_input *in, int at_border)
+{
+    in->family = (uint8_t)(1 + below(5));
+    random_range(in, at_border);
 }
 
 void random_sweep(struct sweep_input *in)
 {
     int at_border = one_in(4);
     in->capacity = at_border ? border_capacity() : legal_capacity();
-    in->family = (uint8_t)(1 + below(5));
-    random_range(in, at_border);
-    put_sweep_sizes(in, one_in(300) ? 2047 + below(3) : below(16));
-    if (in->n > 0 && one_in(20))
-        in->sizes[below(in->n)] = (uint32_t)(one_in(2) ? 0 : word_over(in->capacity));
-    put_sweep_counts(in, one_in(25) ? another_length(in->n) : in->n, one_in(8));
-    if (in->counts_length > 0 && one_in(20))
-        in->counts[below(in->counts_length)] = 0;
+    random_family_and_range(in, at_border);
+    fill_sizes(&in->list, in->capacity, one_in(300) ? 2047 + below(3) : below(16));
+    spoil_sizes(&in->list, in->capacity);
+    fill_counts(&in->list, one_in(25) ? another_length(in->list.n) : in->list.n, one_in(8));
+    spoil_counts(&in->list);
     if (one_in(25))
         in->family = (uint8_t)(one_in(2) ? 0 : 6 + below(250));
     if (one_in(25))
         in->capacity = illegal_capacity();
+}
+
+void sweep_of_list(struct sweep_input *in, uint64_t capacity, const struct counted_list *list)
+{
+    in->capacity = capacity;
+    in->list = *list;
+    random_family_and_range(in, one_in(4));
 }
 
 void largest_sweep(struct sweep_input *in, uint8_t family)
@@ -1179,8 +1203,8 @@ void largest_sweep(struct sweep_input *in, uint8_t family)
     in->family = family;
     in->low = 1;
     in->high = 4096;
-    put_sweep_sizes(in, 2048);
-    put_sweep_counts(in, 2048, 0);
+    fill_sizes(&in->list, in->capacity, 2048);
+    fill_counts(&in->list, 2048, 0);
 }
 
 /* The first p of the range has the limit as its scale. */
@@ -1191,9 +1215,141 @@ void greatest_swept_sum(struct sweep_input *in, uint8_t family)
     in->family = family;
     in->low = lows[family];
     in->high = in->low + 2;
-    in->n = in->counts_length = 2048;
+    in->list.n = in->list.counts_length = 2048;
     for (size_t i = 0; i < 2048; i++) {
-        in->sizes[i] = (uint32_t)LIMIT;
-        in->counts[i] = WINDOWFLOOR_MOST_COUNT;
+        in->list.sizes[i] = (uint32_t)LIMIT;
+        in->list.counts[i] = WINDOWFLOOR_MOST_COUNT;
     }
+}
+
+/* Exact */
+
+static uint64_t between(uint64_t least, uint64_t x, uint64_t most)
+{
+    return x < least ? least : lesser(x, most);
+}
+
+/* Just over or about a part of the capacity, as a half, or about what is left beside it, or any. */
+static uint64_t size_about(uint64_t capacity, uint64_t parts)
+{
+    uint64_t part = capacity / parts, spread = capacity / 12 + 1;
+    switch (below(5)) {
+    case 0: return random_size(capacity, 1);
+    case 1: return between(1, capacity - part + below(2), capacity);
+    case 2: return between(1, part + spread - lesser(part + spread, below(2 * spread)), capacity);
+    default: return between(1, part + below(3) - lesser(part, 1), capacity);
+    }
+}
+
+static void add_size(struct counted_list *list, uint64_t size, size_t count)
+{
+    list->sizes[list->n] = (uint32_t)size;
+    list->counts[list->n] = (uint16_t)count;
+    list->counts_length = ++list->n;
+}
+
+/* Up to 11 copies, one for each size or several. */
+static void put_short_list(struct counted_list *list, uint64_t capacity)
+{
+    uint64_t parts = 1 + below(4);
+    size_t left = below(WINDOWFLOOR_MOST_COPIES + 2), most = one_in(2) ? 1 : left;
+    list->n = list->counts_length = 0;
+    while (left > 0) {
+        size_t count = 1 + below(lesser(left, most));
+        add_size(list, size_about(capacity, parts), count);
+        left -= count;
+    }
+}
+
+static void shuffle(struct counted_list *list)
+{
+    for (size_t i = list->n; i > 1; i--) {
+        size_t other = below(i);
+        uint32_t size = list->sizes[other];
+        list->sizes[other] = list->sizes[i - 1];
+        list->sizes[i - 1] = size;
+    }
+}
+
+/* Sizes that fill two or three windows, three in each, in any order; the capacity is 3 or more. */
+static void put_full_windows(struct counted_list *list, uint64_t capacity)
+{
+    list->n = 0;
+    for (size_t windows = 2 + below(2); windows > 0; windows--) {
+        uint64_t first = between(1, size_about(capacity, 3), capacity - 2);
+        uint64_t second = 1 + below(capacity - first - 1);
+        add_size(list, first, 1);
+        add_size(list, second, 1);
+        add_size(list, capacity - first - second, 1);
+    }
+    shuffle(list);
+}
+
+static void put_exact_list(struct counted_list *list, uint64_t capacity)
+{
+    if (capacity >= 3 && one_in(4))
+        put_full_windows(list, capacity);
+    else
+        put_short_list(list, capacity);
+    if (list->n > 0 && one_in(20))
+        list->counts[below(list->n)] = (uint16_t)random_copies();
+    if (one_in(200)) {
+        fill_sizes(list, capacity, 2047 + below(3));
+        fill_counts(list, list->n, below(2));
+    }
+}
+
+/* Other numbers of counts than of sizes: one too few, or some more. */
+static void change_length(struct counted_list *list)
+{
+    size_t length = another_length(list->n);
+    for (size_t i = list->n; i < length; i++)
+        list->counts[i] = (uint16_t)below(3);
+    list->counts_length = length;
+}
+
+void random_exact(struct exact_input *in)
+{
+    uint64_t capacity = one_in(4) ? border_capacity() : legal_capacity();
+    put_exact_list(&in->list, capacity);
+    in->windows_places = some_places(WINDOWFLOOR_EXACT_WINDOWS, 15);
+    spoil_sizes(&in->list, capacity);
+    if (one_in(25))
+        change_length(&in->list);
+    spoil_counts(&in->list);
+    in->capacity = one_in(25) ? illegal_capacity() : capacity;
+}
+
+void exact_of_faults(struct exact_input *in, unsigned faults)
+{
+    static const struct counted_list right = {{7, 3, 5}, {1, 1, 2, 1}, 3, 3};
+    struct counted_list *list = &in->list;
+    *list = right;
+    in->capacity = faults & 1 ? 0 : 10;
+    list->counts_length = faults & 2 ? 4 : 3;
+    list->sizes[1] = faults & 4 ? 11 : 3;
+    list->counts[0] = faults & 8 ? 0 : 1;
+    list->counts[2] = faults & 16 ? WINDOWFLOOR_MOST_COUNT : 2;
+    in->windows_places = faults & 32 ? 9 : 12;
+}
+
+void exact_of_lengths(struct exact_input *in, size_t n, size_t counts_length, size_t windows_places)
+{
+    in->capacity = 60;
+    fill_sizes(&in->list, in->capacity, n);
+    fill_counts(&in->list, counts_length, 1);
+    in->windows_places = windows_places;
+}
+
+void job_of_list(struct job_input *in, uint64_t capacity, const struct counted_list *list)
+{
+    put_list_head(in, WINDOWFLOOR_KIND_FLOOR, capacity, list->n);
+    for (size_t i = 0; i < list->n; i++)
+        put_number(in, list->sizes[i]);
+    put_header(in, WINDOWFLOOR_TAG_COUNTS, 2 * list->n);
+    for (size_t i = 0; i < list->n; i++)
+        put_two_bytes(in, list->counts[i]);
+    for (size_t steps = below(4); steps > 0; steps--)
+        capacity = put_random_step(in, capacity);
+    lend_places(in, 1000000);
 }

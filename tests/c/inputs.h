@@ -1,4 +1,4 @@
-/* Random inputs of the four operations: valid, at the limits, and damaged. */
+/* Random inputs of the five operations: valid, at the limits, and damaged. */
 #ifndef INPUTS_H
 #define INPUTS_H
 
@@ -30,12 +30,22 @@ struct job_input {
     size_t first_list, lists;             /* which of them is the list of sizes, or which are rows */
 };
 
-struct sweep_input {
-    uint64_t capacity, low, high;
-    uint8_t family;
+struct counted_list {
     uint32_t sizes[ROOM_SIZES];
     uint16_t counts[ROOM_SIZES];
     size_t n, counts_length;
+};
+
+struct sweep_input {
+    uint64_t capacity, low, high;
+    uint8_t family;
+    struct counted_list list;
+};
+
+struct exact_input {
+    uint64_t capacity;
+    struct counted_list list;
+    size_t windows_places;
 };
 
 void seed_inputs(uint64_t seed);
@@ -46,6 +56,11 @@ void random_image(struct image_input *in);
 void random_table(struct table_input *in);
 void random_job(struct job_input *in);
 void random_sweep(struct sweep_input *in);
+void random_exact(struct exact_input *in);
+
+/* A sweep over some range, and a floor job of some steps, of a list that is in order. */
+void sweep_of_list(struct sweep_input *in, uint64_t capacity, const struct counted_list *list);
+void job_of_list(struct job_input *in, uint64_t capacity, const struct counted_list *list);
 
 /* The four-byte number at a place of the job. */
 uint64_t read_number(const struct job_input *in, size_t at);
@@ -75,6 +90,14 @@ void longest_chain_of_blocks(struct job_input *in);    /* counts too, and 64 blo
 void longest_chain_of_rows(struct job_input *in);
 void chain_at_limit(struct job_input *in, unsigned kind); /* 2,048 sizes, seven steps, all at the limit */
 void largest_sweep(struct sweep_input *in, uint8_t family);
+
+/* An exact input of four copies with each fault that has its bit set; the lowest bit is for the refusal that
+ * is asked first. */
+enum { EXACT_FAULTS = 6 };
+void exact_of_faults(struct exact_input *in, unsigned faults);
+
+/* An exact input of so many sizes, each counted once, and counts of 1. */
+void exact_of_lengths(struct exact_input *in, size_t n, size_t counts_length, size_t windows_places);
 
 /* The greatest sums: 2,048 sizes with the greatest count and image; in so many blocks, or without tag 8
  * for 0. */

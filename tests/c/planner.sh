@@ -1,6 +1,7 @@
 #!/usr/bin/env bash
 # Runs the example on a few lists and models of rows, and holds what it prints to planner.out beside this file, which is
-# compared with the independent implementation by tests/reference/planner_cases.py.
+# compared with the independent implementation by tests/reference/planner_cases.py. Lines on single windows are not
+# stored: which of the best assignments is shown is free, and tests/reference/planner_windows.py checks them.
 #
 #     planner.sh PROGRAM            compare
 #     planner.sh PROGRAM --print    print, to be read and stored
@@ -80,6 +81,16 @@ run_blocks() {
     run 10 7x2 5 / 7 5x300 / 5
     run 100 51x2 34 26 / 34x2 / 26x3
     run 4000000000 4000000000x65535 / 2400000000x65535 2400000000
+}
+
+# Up to ten copies, and one more; the first needs a window more than its best floor.
+run_short_lists() {
+    run 11 2 5 10 7 5 3
+    run 10 4 4 4 3 3 3 3 3 3
+    run 10 5x10
+    run 10 5x11
+    run 10 5x4 / 5x6
+    run 10 5x5 / 5x6
 }
 
 run_refused() {
@@ -232,6 +243,7 @@ run_all() {
     run_lists
     run_counted_lists
     run_blocks
+    run_short_lists
     run_refused
     run_refused_counts
     run_refused_blocks
@@ -243,9 +255,15 @@ run_all() {
     run_wrong_models
 }
 
+without_windows() {
+    grep -v '^  window '
+}
+
 if [ "${2-}" = --print ]; then
-    run_all
+    run_all | without_windows
 else
-    diff "$here/planner.out" <(run_all)
-    echo "planner: prints what is stored"
+    run_all >"$lists/printed"
+    diff "$here/planner.out" <(without_windows <"$lists/printed")
+    python3 -B "$here/../reference/planner_windows.py" "$lists/printed"
+    echo "planner: prints what is stored, and windows that hold the lists"
 fi

@@ -2,6 +2,8 @@
 
 #include <string.h>
 
+#include "assignment.h"
+
 /* 128 bits: no product of three numbers within the limit passes them. */
 __extension__ typedef unsigned __int128 wide;
 
@@ -712,6 +714,18 @@ struct windowfloor_job_answer reference_job(const uint8_t *job, size_t bytes,
 
 /* Sweep */
 
+/* Of a list that is in no job. */
+static uint64_t counted_list_refusal(uint64_t capacity, const uint32_t *sizes, size_t n,
+                                     const uint16_t *counts, size_t counts_length)
+{
+    if (n > 2048 || counts_length != n)
+        return 6;
+    for (size_t i = 0; i < n; i++)
+        if (sizes[i] == 0 || sizes[i] > capacity)
+            return 17;
+    return some_count_is_0(counts, n) ? 22 : 0;
+}
+
 static uint64_t sweep_refusal(uint64_t capacity, uint8_t family, const uint32_t *sizes, size_t n,
                               const uint16_t *counts, size_t counts_length, uint64_t low, uint64_t high)
 {
@@ -719,13 +733,9 @@ static uint64_t sweep_refusal(uint64_t capacity, uint8_t family, const uint32_t 
         return 1;
     if (family < 1 || family > 5)
         return 2;
-    if (n > 2048 || counts_length != n)
-        return 6;
-    for (size_t i = 0; i < n; i++)
-        if (sizes[i] == 0 || sizes[i] > capacity)
-            return 17;
-    if (some_count_is_0(counts, n))
-        return 22;
+    uint64_t number = counted_list_refusal(capacity, sizes, n, counts, counts_length);
+    if (number != 0)
+        return number;
     return low > high || high - low > 4095 ? 19 : 0;
 }
 
@@ -758,5 +768,89 @@ struct windowfloor_sweep_answer reference_sweep(uint64_t capacity, uint8_t famil
             answer.p = low + i;
         }
     }
+    return answer;
+}
+
+/* Exact */
+
+enum { MOST_COPIES = 10 };
+
+static size_t total_of_counts(const uint16_t *counts, size_t n)
+{
+    size_t total = 0;
+    for (size_t i = 0; i < n; i++)
+        total += counts[i];
+    return total;
+}
+
+static uint64_t exact_refusal(uint64_t capacity, const uint32_t *sizes, size_t n, const uint16_t *counts,
+                              size_t counts_length, size_t windows_places)
+{
+    if (capacity_refused(capacity))
+        return 1;
+    uint64_t number = counted_list_refusal(capacity, sizes, n, counts, counts_length);
+    if (number != 0)
+        return number;
+    if (total_of_counts(counts, n) > MOST_COPIES)
+        return 24;
+    return windows_places < 10 ? 7 : 0;
+}
+
+/* Of a group of copies, in which bit i stands for copy i: its fewest windows and the least that the last
+ * of so few can hold, with the copy that came to it last. */
+struct packing {
+    unsigned windows, last;
+    wide load;
+};
+
+static int is_better(struct packing a, struct packing b)
+{
+    return a.windows < b.windows || (a.windows == b.windows && a.load < b.load);
+}
+
+/* The copy goes into the last window if it has room, else into a new one. */
+static struct packing with_copy(struct packing before, unsigned copy, uint32_t size, uint64_t capacity)
+{
+    struct packing after = {before.windows, copy, before.load + size};
+    if (after.load > capacity) {
+        after.windows++;
+        after.load = size;
+    }
+    return after;
+}
+
+/* Each copy of the group is tried as the last; all smaller groups are known. */
+static struct packing best_packing(const struct packing *best, unsigned group, const uint32_t *copies,
+                                   uint64_t capacity)
+{
+    struct packing found = {MOST_COPIES + 1, 0, 0};
+    for (unsigned copy = 0; group >> copy != 0; copy++) {
+        unsigned bit = 1u << copy;
+        if (!(group & bit))
+            continue;
+        struct packing tried = with_copy(best[group - bit], copy, copies[copy], capacity);
+        if (is_better(tried, found))
+            found = tried;
+    }
+    return found;
+}
+
+struct windowfloor_exact_answer reference_exact(uint64_t capacity,
+                                                const uint32_t *sizes, size_t n,
+                                                const uint16_t *counts, size_t counts_length,
+                                                uint32_t *windows, size_t windows_places)
+{
+    struct windowfloor_exact_answer answer = {0, 0};
+    struct packing best[1u << MOST_COPIES] = {{0, 0, capacity}}; /* no window: the next copy opens one */
+    uint32_t copies[MOST_COPIES];
+    answer.number = exact_refusal(capacity, sizes, n, counts, counts_length, windows_places);
+    if (answer.number != 0)
+        return answer;
+    unsigned all = (1u << write_copies(sizes, n, counts, copies)) - 1;
+    for (unsigned group = 1; group <= all; group++)
+        best[group] = best_packing(best, group, copies, capacity);
+    answer.fewest = best[all].windows;
+    for (unsigned group = all; group != 0; group -= 1u << best[group].last)
+        windows[best[group].last] = best[group].windows - 1;
     return answer;
 }

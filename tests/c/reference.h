@@ -1,7 +1,8 @@
-/* The four operations once more, written from the scope document and the requests alone and with no
+/* The five operations once more, written from the scope document and the requests alone and with no
  * thought of speed, to be compared with the library. A job is read by a machine that takes byte for byte;
  * the library and the implementation in Python go from field to field. Each row is judged in full, its
- * tables too; the library checks a table once. */
+ * tables too; the library checks a table once. The fewest windows are found by adding a copy to the last
+ * window; the implementation in Python takes a window away. */
 #ifndef REFERENCE_H
 #define REFERENCE_H
 
@@ -25,6 +26,11 @@ struct windowfloor_sweep_answer reference_sweep(uint64_t capacity, uint8_t famil
                                                 const uint32_t *sizes, size_t n,
                                                 const uint16_t *counts, size_t counts_length,
                                                 uint64_t low, uint64_t high);
+
+struct windowfloor_exact_answer reference_exact(uint64_t capacity,
+                                                const uint32_t *sizes, size_t n,
+                                                const uint16_t *counts, size_t counts_length,
+                                                uint32_t *windows, size_t windows_places);
 
 /* The tag of the field that a job is refused for with 13, 14 or 15; 0 if it is refused for none. */
 unsigned reference_refused_tag(const uint8_t *job, size_t bytes);

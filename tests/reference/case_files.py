@@ -1,5 +1,6 @@
 """The stored input and expected output of a case program: written, or with --check compared."""
 import sys
+from functools import lru_cache
 from pathlib import Path
 
 CRATES = Path(__file__).resolve().parents[2] / "crates"
@@ -41,3 +42,10 @@ def store_or_check(crate, stdin, stdout):
             print(f"differs: crates/{crate}/{name}")
             status = 1
     return status
+
+
+@lru_cache
+def stored(crate, name):
+    """The numbers of each line that has some."""
+    text = (CRATES / crate / name).read_text().splitlines()
+    return [tuple(map(int, row.split())) for row in text if row]

@@ -1,6 +1,8 @@
 """Compares tests/c/planner.out, what the example examples/planner.c should
 print, with the independent implementation. Exits with 1 if it differs; with
---print it writes the expected text to standard output."""
+--print it writes the expected text to standard output. The lines on single
+windows are in neither: which of the best assignments is shown is free, and
+planner_windows.py checks them."""
 
 import errno
 import os
@@ -31,6 +33,7 @@ COUNTED = ("10 7x2 5x3", "10 5x300", "10 6x255 6x256 4", "100 51x2 34x3 26x4", "
 REFUSED_COUNTS = ("10 5x0", "10 5x2 5x0", "10 5x0 11", "10 0x10", "4000000001 5x0")
 IN_BLOCKS = ("10 7 5 / 7 5 / 5", "10 5 / 5", "10 6 6 6 / 4 / 6", "10 7x1 / 5x1", "10 7x2 5 / 7 5x300 / 5",
              "100 51x2 34 26 / 34x2 / 26x3", "4000000000 4000000000x65535 / 2400000000x65535 2400000000")
+SHORT = ("11 2 5 10 7 5 3", "10 4 4 4 3 3 3 3 3 3", "10 5x10", "10 5x11", "10 5x4 / 5x6", "10 5x5 / 5x6")
 REFUSED_BLOCKS = ("10 / 7 5", "10 7 / / 5", "10 7 5 /", "10 /", "10 7 / / 11", "10 7 / / 5x0", "4000000001 5 /",
                   "99999999999 /")
 USAGE = ("usage: planner CAPACITY SIZE[xCOUNT]... [/ SIZE[xCOUNT]...]... | planner FILE"
@@ -227,13 +230,40 @@ def listed(capacity, blocks):
 
 def block_line(capacity, blocks, *steps):
     floors, total = run_blocks(capacity, blocks, *steps)
-    return f"blocks: {' '.join(map(str, floors))}, total {total}\n" if len(blocks) > 1 else ""
+    return f"blocks: {' '.join(map(str, floors))}, total {total}\n"
+
+
+def fewest_of(capacity, pairs):
+    return wf.exact(capacity, *apart(pairs), [0] * wf.EXACT_WINDOWS)[1]
+
+
+def fewest_line(capacity, pairs):
+    return f"fewest windows: {fewest_of(capacity, pairs)}\n"
+
+
+def block_fewest_lines(capacity, blocks):
+    """Of each block, and their sum."""
+    text = "".join(f"block {place}, " + fewest_line(capacity, block) for place, block in enumerate(blocks, start=1))
+    return text + f"fewest windows of all blocks: {sum(fewest_of(capacity, block) for block in blocks)}\n"
 
 
 def half_line(capacity, family, p):
     half = (capacity + 1) // 2
     _, image, scale = wf.image(capacity, family, p, 0, half)
     return f"one more size of {half} would add {image} to a sum that is divided by {scale}\n"
+
+
+def floor_lines(capacity, blocks, best, step):
+    """The best floor and the floors of the blocks; of a short list also the fewest windows of each."""
+    short = sum(count for _, count in together(blocks)) <= wf.MOST_COPIES
+    text = f"best floor {best}: {FAMILIES[step[0]]}, p = {step[1]}\n" if step else f"best floor {best}: no step\n"
+    if short:
+        text += fewest_line(capacity, together(blocks))
+    if len(blocks) > 1:
+        text += block_line(capacity, blocks, *([step] if step else []))
+    if len(blocks) > 1 and short:
+        text += block_fewest_lines(capacity, blocks)
+    return text
 
 
 def expected(words):
@@ -245,11 +275,9 @@ def expected(words):
         return refused(refusal)
     pairs = together(blocks)
     lines, best, step = sweeps(capacity, pairs, without)
-    steps = [step] if step else []
-    cut, images = run_cut(capacity, apart(pairs)[0], *steps)
+    cut, images = run_cut(capacity, apart(pairs)[0], *([step] if step else []))
     text = listed(capacity, blocks) + f"  {FAMILIES[0]:<19}           floor {without}\n{lines}"
-    text += f"best floor {best}: {FAMILIES[step[0]]}, p = {step[1]}\n" if step else f"best floor {best}: no step\n"
-    text += block_line(capacity, blocks, *steps) + "cut:" + inequality(images, cut[4])
+    text += floor_lines(capacity, blocks, best, step) + "cut:" + inequality(images, cut[4])
     return text + half_line(capacity, *step) if step else text
 
 
@@ -266,15 +294,21 @@ def expected_rows(rows, steps):
     return text
 
 
+def words_of(line):
+    """The list of a run: a file of these, one that is stored, or the arguments themselves."""
+    if line in dict(FILES):
+        return dict(FILES)[line].split()
+    return ((FOLDER / line).read_text() if line.endswith(".txt") else line).split()
+
+
 def runs():
     """The arguments that planner.sh gives, and what is printed."""
-    for line in LISTS + COUNTED + IN_BLOCKS + REFUSED + REFUSED_COUNTS + REFUSED_BLOCKS:
-        words = (FOLDER / line).read_text() if line.endswith(".txt") else line
-        yield line, expected(words.split())
+    for line in LISTS + COUNTED + IN_BLOCKS + SHORT + REFUSED + REFUSED_COUNTS + REFUSED_BLOCKS:
+        yield line, expected(words_of(line))
     for line, message in WRONG_ARGUMENTS:
         yield line, f"planner: {message}\nexit 2\n"
-    for name, words in FILES:
-        yield name, expected(words.split())
+    for name, _ in FILES:
+        yield name, expected(words_of(name))
     for name, message in WRONG_FILES:
         yield name, f"planner: {name}{message}\nexit 2\n"
     for name, rows, steps in MODELS:

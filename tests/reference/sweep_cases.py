@@ -15,39 +15,20 @@ import windowfloor as wf
 from case_files import lines, store_or_check
 from edges import BEFORE, DOUBLED, EDGES, LIMIT, MAX, parameters_about
 from job_bytes import apart, random_pairs
+from runs import MOST_NUMBERS, given, numbers_in, ones, runs_of, take_counted_list
 
 RANDOM, RANDOM_COUNTS = 400, 150
 MAX_P = 2**64 - 1
 SIZES, WIDEST = 2048, 4095  # the most sizes, and the most that high is above low
 MOST_COUNT = 65_535
-MOST_PLACES = 2100  # of a case's sizes, and of its counts
 MOST_BYTES = 262_144  # of all cases
 FAMILIES = (1, 2, 3, 4, 5)
-
-
-def numbers_in(runs):
-    return sum(run[0] for run in runs)
-
-
-def given(runs):
-    """How many numbers the runs have, and the runs; one may leave out its step."""
-    whole = [run + (0,) * (3 - len(run)) for run in runs]
-    return (numbers_in(runs), len(runs)) + sum(whole, ())
-
-
-def ones(n):
-    """The runs of n counts of 1."""
-    return [(n, 1)] if n > 0 else []
 
 
 def make(capacity, family, low, high, *runs, counts=None):
     """A case whose sizes are those of their runs, and its counts those of theirs; if these are left out, each is 1."""
     counts = ones(numbers_in(runs)) if counts is None else counts
     return (capacity, family, low, high) + given(runs) + given(counts)
-
-
-def runs_of(numbers):
-    return [(len(list(group)), number) for number, group in itertools.groupby(numbers)]
 
 
 def of(capacity, family, low, high, *sizes):
@@ -258,7 +239,7 @@ def form_of_counts():
 
 def numbers_of_both():
     """As many sizes and as many counts as may be, and more; counts of an empty list; the most of both."""
-    for n, m in itertools.product((0, 1, 2, SIZES - 1, SIZES, SIZES + 1, MOST_PLACES), repeat=2):
+    for n, m in itertools.product((0, 1, 2, SIZES - 1, SIZES, SIZES + 1, MOST_NUMBERS), repeat=2):
         yield make(60, 1, 1, 3, (n, 31), counts=[(m, 2)])
     for family in FAMILIES:
         yield make(60, family, 1, 31, counts=[(1, 0)])
@@ -366,20 +347,10 @@ def all_cases():
 
 # Answers
 
-def list_of(n, k, runs, bits):
-    """The n numbers of a case's runs, of so many bits."""
-    assert n <= MOST_PLACES and len(runs) == 3 * k
-    numbers = []
-    for count, first, step in zip(runs[::3], runs[1::3], runs[2::3]):
-        numbers += [(first + i * step) % 2**bits for i in range(count)]
-    return (numbers + [0] * n)[:n]
-
-
 def answer(case):
-    capacity, family, low, high, n, k = case[:6]
-    end = 6 + 3 * k
-    m, j = case[end:end + 2]
-    sizes, counts = list_of(n, k, case[6:end], 32), list_of(m, j, case[end + 2:], 16)
+    capacity, family, low, high = case[:4]
+    sizes, counts, end = take_counted_list(case, 4)
+    assert end == len(case)
     return wf.sweep(capacity, family, sizes, counts, low, high)
 
 

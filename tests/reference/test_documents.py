@@ -165,6 +165,23 @@ class Jobs(unittest.TestCase):
         self.assertEqual(job, (ROOT / "examples" / "handover.job").read_bytes())
 
 
+class Exact(unittest.TestCase):
+
+    def test_lists(self):
+        """The lists of 5.6: capacity, sizes, counts, fewest windows, and windows of the copies."""
+        met = 0
+        for row in rows(section("5.6 ")):
+            if len(row) != 5 or row[0] == "C":
+                continue
+            capacity, fewest = number(row[0]), number(row[3])
+            sizes, counts, windows = (numbers(row[column].split()) for column in (1, 2, 4))
+            with self.subTest(row=row):
+                self.assertEqual(wf.exact(capacity, sizes, counts, [0] * wf.EXACT_WINDOWS), (0, fewest))
+                self.assertTrue(wf.is_assignment(capacity, wf.copies_of(sizes, counts), windows, fewest))
+            met += 1
+        self.assertGreaterEqual(met, 3)
+
+
 class Promises(unittest.TestCase):
 
     def setUp(self):
@@ -193,7 +210,7 @@ class Promises(unittest.TestCase):
             if len(row) == 4 and row[0] != "section":
                 led_from |= set(row[0].split(", "))
         self.assertLessEqual(led_from, headings)
-        self.assertLessEqual({"2.%d" % k for k in range(1, 9)} | {"5.%d" % k for k in range(2, 6)},
+        self.assertLessEqual({"2.%d" % k for k in range(1, 9)} | {"5.%d" % k for k in range(2, 7)},
                              led_from)
 
 
@@ -207,7 +224,7 @@ class Names(unittest.TestCase):
             name = row[1].strip("`")
             self.assertEqual((in_header[name], getattr(wf, name)), (row[0], int(row[0])))
         last = int(re.search(r"#define WINDOWFLOOR_LAST_REFUSAL (\d+)", HEADER).group(1))
-        self.assertEqual(last, wf.BAD_BLOCKS)
+        self.assertEqual(last, wf.TOO_MANY_COPIES)
         self.assertEqual([int(row[0]) for row in documented], list(range(1, last + 1)))
 
     def test_limits(self):
@@ -219,15 +236,15 @@ class Names(unittest.TestCase):
                 name, bound = row[2].strip("`"), max(numbers(re.findall(r"[\d,]*\d", row[1])))
                 self.assertEqual((int(defined[name]), getattr(wf, name, bound)), (bound, bound), row)
                 met.append(name)
-        self.assertGreaterEqual(len(met), 17)
-        named = {name for name in vars(wf) if re.match("LIMIT$|MOST_|JOB_[A-Z]+$", name)}
+        self.assertGreaterEqual(len(met), 19)
+        named = {name for name in vars(wf) if re.match("LIMIT$|MOST_|JOB_[A-Z]+$|EXACT_", name)}
         self.assertLessEqual(named, set(met))
 
     def test_answers(self):
         """The structs of the document have the fields of the header's, in their order."""
         documented = dict(re.findall(r"struct (\w+) { uint64_t ([^;]+); };", REFERENCE))
         declared = dict(re.findall(r"struct (\w+) {\n(.*?)\n};", HEADER, re.S))
-        self.assertEqual(len(documented), 4)
+        self.assertEqual(len(documented), 5)
         for name, fields in documented.items():
             self.assertEqual(fields.split(", "), re.findall(r"uint64_t (\w+);", declared[name]), name)
         self.assertLessEqual({"row", "total"}, set(documented["windowfloor_job_answer"].split(", ")))

@@ -6,19 +6,11 @@ blocks of every sort."""
 import itertools
 import unittest
 from collections import defaultdict
-from functools import lru_cache
 
 import windowfloor as wf
-from case_files import CRATES
+from case_files import stored
 from job_bytes import field, lent
 from job_cases import job_of
-
-
-@lru_cache
-def stored(name):
-    """The numbers of each line that has some."""
-    lines = (CRATES / "job_cases" / name).read_text().splitlines()
-    return [tuple(map(int, line.split())) for line in lines if line]
 
 
 def judged(data):
@@ -105,8 +97,8 @@ STEP_REFUSALS = (
 class Stored(unittest.TestCase):
 
     def setUp(self):
-        self.answers = stored("stdout")
-        self.cases = list(zip(stored("stdin"), self.answers, strict=True))
+        self.answers = stored("job_cases", "stdout")
+        self.cases = list(zip(stored("job_cases", "stdin"), self.answers, strict=True))
 
 
 class Coverage(Stored):

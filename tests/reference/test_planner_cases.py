@@ -2,8 +2,9 @@
 family that are legal with a scale within the limit are one run of numbers that
 begins with 1 or 2, or there are none. Of what planner_cases.py takes for
 granted: a job of rows gives the cuts of as many jobs of one row. Of lists with
-counts, which have the floors of all their copies. And of lists in blocks, whose
-floors are those of the blocks as lists of their own."""
+counts, which have the floors of all their copies. Of lists in blocks, whose
+floors are those of the blocks as lists of their own. And of short lists, of which
+the fewest windows are printed."""
 
 import unittest
 from unittest import mock
@@ -12,8 +13,8 @@ import planner_cases
 import windowfloor as wf
 from job_bytes import counted_job, family, field, lent
 from planner_cases import (
-    COUNTED, FILES, IN_BLOCKS, MODEL, MODELS, expected, expected_rows, greatest_p, in_blocks, notation, pair, run_cut,
-    run_job, sweeps)
+    COUNTED, FILES, IN_BLOCKS, LISTS, MODEL, MODELS, SHORT, expected, expected_rows, greatest_p, in_blocks, notation,
+    pair, run_cut, run_job, sweeps, words_of)
 
 FAMILIES = range(1, 6)
 
@@ -127,21 +128,28 @@ def best_step(line):
     return [family(planner_cases.FAMILIES.index(name), int(p))] if p else []
 
 
-class Blocks(unittest.TestCase):
-    LINES = IN_BLOCKS + tuple(words for name, words in FILES if name in ("blocks.txt", "most_blocks.txt"))
+def is_of_whole(line):
+    """It is not on blocks."""
+    return "block" not in line
 
+
+class FewerTried(unittest.TestCase):
     def setUp(self):
         """Which step is the best does not matter here: fewer are tried."""
         fewer = mock.patch.object(planner_cases, "MOST_TRIED", 64)
         fewer.start()
         self.addCleanup(fewer.stop)
 
+
+class Blocks(FewerTried):
+    LINES = IN_BLOCKS + tuple(words for name, words in FILES if name in ("blocks.txt", "most_blocks.txt"))
+
     def test_reckoned_by_hand(self):
         """Family 1 with p = 4 turns 7 into 10 and leaves 5: sums of 15, 15 and 5, and of 35 for the whole list."""
         text = expected("10 7 5 / 7 5 / 5".split()).splitlines()
         self.assertEqual(text[0], "capacity 10, 5 sizes, 3 blocks")
-        self.assertEqual(text[7:10], ["best floor 4: threshold, p = 4", "blocks: 2 2 1, total 5",
-                                      "cut: 10 x1 + 5 x2 + 10 x3 + 5 x4 + 5 x5 <= 10"])
+        self.assertEqual([text[7], text[9], text[14]], ["best floor 4: threshold, p = 4", "blocks: 2 2 1, total 5",
+                                                        "cut: 10 x1 + 5 x2 + 10 x3 + 5 x4 + 5 x5 <= 10"])
 
     def test_blocks_as_lists_of_their_own(self):
         for line in self.LINES:
@@ -150,7 +158,7 @@ class Blocks(unittest.TestCase):
             jobs = [counted_job(int(capacity), block, *best_step(text[7])) for block in in_blocks(words)]
             floors = [run_job(data)[0][2] for data in jobs]
             with self.subTest(line=line):
-                self.assertEqual(text[8], f"blocks: {' '.join(map(str, floors))}, total {sum(floors)}")
+                self.assertIn(f"blocks: {' '.join(map(str, floors))}, total {sum(floors)}", text)
 
     def test_nothing_else_than_without_blocks(self):
         for line in self.LINES:
@@ -158,7 +166,7 @@ class Blocks(unittest.TestCase):
             first, *others = expected(line.split()).splitlines()
             with self.subTest(line=line):
                 self.assertIn(number, first)
-                self.assertEqual([first.replace(number, "").replace(" /", ""), *others[:7], *others[8:]],
+                self.assertEqual([first.replace(number, "").replace(" /", ""), *filter(is_of_whole, others)],
                                  expected(line.replace(" /", "").split()).splitlines())
 
     def test_notation(self):
@@ -167,6 +175,42 @@ class Blocks(unittest.TestCase):
         self.assertEqual([in_blocks([]), in_blocks(["5"])], [[[]], [[(5, 1)]]])
         self.assertEqual(expected("10 5 5x300 / 7 / 3x2".split()).splitlines()[0],
                          "capacity 10, 4 sizes, 3 blocks: 5 5x300 / 7 / 3x2")
+
+
+class ShortLists(FewerTried):
+    def fewest(self, line):
+        """What is printed about the fewest windows."""
+        return [text for text in expected(line.split()).splitlines() if "fewest" in text]
+
+    def test_reckoned_by_hand(self):
+        """A 7 has its window to itself, and two of the 5 share one unless blocks keep them apart. With 11 the 10 leaves
+        1 empty, so three windows would leave no more, and no choice of 2, 3, 5 and 5 makes 11 with the 7."""
+        self.assertEqual(self.fewest("10 7 7 5 5 5"), ["fewest windows: 4"])
+        self.assertEqual(self.fewest("10 4 4 4 3 3 3 3 3 3"), ["fewest windows: 3"])
+        self.assertEqual(self.fewest("11 2 5 10 7 5 3"), ["fewest windows: 4"])
+        self.assertEqual(self.fewest("10"), ["fewest windows: 0"])
+        self.assertEqual(self.fewest("10 7 5 / 7 5 / 5"), [
+            "fewest windows: 4", "block 1, fewest windows: 2", "block 2, fewest windows: 2",
+            "block 3, fewest windows: 1", "fewest windows of all blocks: 5"])
+
+    def test_ten_copies_and_eleven(self):
+        """Counted or not; in blocks all copies are counted together."""
+        for ten, eleven in (("10 5x10", "10 5x11"), ("10" + 10 * " 5", "10" + 11 * " 5"),
+                            ("10 5x4 / 5x6", "10 5x5 / 5x6")):
+            with self.subTest(ten=ten):
+                self.assertEqual(self.fewest(ten)[0], "fewest windows: 5")
+                self.assertEqual(self.fewest(eleven), [])
+
+    def test_behind_the_best_floor(self):
+        """No other line is about it, and the best floor is not above it."""
+        for line in LISTS + COUNTED + IN_BLOCKS + SHORT:
+            text = expected(words_of(line)).splitlines()
+            places = [place for place, printed in enumerate(text) if printed.startswith("fewest windows: ")]
+            with self.subTest(line=line):
+                self.assertIn(places, ([], [8]))
+                for place in places:
+                    floor = int(text[place - 1].removeprefix("best floor ").split(":")[0])
+                    self.assertLessEqual(floor, int(text[place].split()[-1]))
 
 
 if __name__ == "__main__":

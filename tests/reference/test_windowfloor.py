@@ -1,8 +1,10 @@
 """Tests of the reference: the examples of the scope document ("01"), values
 reckoned by hand from it and from the change requests for many rows, for tables
-of another capacity, for counts, for half of an odd window and for blocks ("02",
-tickets 1, 2, 4, 5 and 6), and brute force over small capacities."""
+of another capacity, for counts, for half of an odd window, for blocks and for the
+fewest windows ("02", tickets 1, 2, 4, 5, 6 and 8), and brute force over small
+capacities."""
 
+import itertools
 import random
 import unittest
 from functools import lru_cache
@@ -1259,6 +1261,155 @@ class Sweeps(unittest.TestCase):
             copies = written_out(pairs)
             self.assertEqual(wf.sweep(capacity, family, *apart(pairs), 0, 15),
                              wf.sweep(capacity, family, copies, [1] * len(copies), 0, 15))
+
+
+class Exact(unittest.TestCase):
+    """02, ticket 8: the fewest windows of short lists."""
+
+    def fewest(self, capacity, sizes, counts):
+        """That of an accepted list, whose assignment is looked at."""
+        windows = [MARK] * 12
+        number, fewest = wf.exact(capacity, sizes, counts, windows)
+        copies = written_out(zip(sizes, counts))
+        end = len(copies)
+        self.assertEqual((number, windows[end:]), (0, [MARK] * (12 - end)))
+        self.assertTrue(wf.is_assignment(capacity, copies, windows[:end], fewest))
+        return fewest
+
+    def assert_fewest(self, cases):
+        for capacity, copies, fewest in cases:
+            with self.subTest(capacity=capacity, copies=copies):
+                self.assertEqual(self.fewest(capacity, copies, [1] * len(copies)), fewest)
+
+    def test_full_windows(self):
+        """The total divided by the capacity and rounded up can be had: 7 + 3 and 5 + 5; 9 + 1, 8 + 2 and so on."""
+        self.assert_fewest([
+            (10, [7, 3, 5, 5], 2), (10, [9, 8, 7, 6, 5, 5, 4, 3, 2, 1], 5), (10, [10], 1), (10, [1] * 10, 1),
+            (10, [2] * 10, 2), (10, [5] * 10, 5), (10, [5] * 9, 5), (10, [10] * 10, 10), (9, [3] * 10, 4), (1, [1], 1),
+            (100, [60, 41, 59, 40, 50, 50], 3), (100, [34, 33, 33, 51, 49], 2)])
+
+    def test_more_than_the_total(self):
+        """It cannot: no two of 6 fit, two of 4 and three of 3 at most; beside 51 there is room for one of 49 or of
+        26."""
+        self.assert_fewest([
+            (10, [6, 6], 2), (10, [6] * 3, 3), (10, [6] * 10, 10), (10, [4] * 5, 3), (10, [4] * 10, 5),
+            (10, [3] * 10, 4), (11, [4] * 5, 3), (100, [51] * 9, 9), (100, [51, 51, 49, 49, 1], 3),
+            (100, [26] * 8, 3), (100, [34] * 6, 3), (100, [26] * 4 + [51] * 3, 4), (3, [2] * 10, 10)])
+
+    def test_first_fit_needs_more(self):
+        """First fit has 4 + 4, 4 + 6, 6 and 6 where 4 + 6 is full; 2 + 3 + 4, 10, 9 and 8 where 2 + 10, 3 + 9 and
+        4 + 8 are."""
+        self.assert_fewest([(10, [4, 4, 4, 6, 6, 6], 3), (10, [4, 4, 6, 6], 2), (10, [3, 3, 7, 7], 2),
+                            (10, [2, 2, 2, 8, 8, 8], 3), (12, [2, 3, 4, 10, 9, 8], 3)])
+
+    def test_first_fit_decreasing_needs_more(self):
+        """It has 4 + 4, 3 + 3 + 3 and 3 where 4 + 3 + 3 is full; 3 + 3, 2 + 2 + 2 and 2 where 3 + 2 + 2 is."""
+        self.assert_fewest([(10, [4, 4, 3, 3, 3, 3], 2), (7, [3, 3, 2, 2, 2, 2], 2), (7, [2, 3, 2, 3, 2, 2], 2),
+                            (100, [44, 44, 28, 28, 28, 28], 2), (14, [6, 6, 4, 4, 4, 4, 14], 3)])
+
+    def test_at_the_limit(self):
+        """Totals of 32 bits and more; the last would be 1 if they were cut to 32 bits."""
+        half = LIMIT // 2
+        self.assert_fewest([
+            (LIMIT, [LIMIT] * 10, 10), (LIMIT, [half] * 10, 5), (LIMIT, [half + 1] * 10, 10),
+            (LIMIT, [half - 1, half + 1] * 5, 5), (LIMIT - 1, [half] * 10, 10), (LIMIT, [LIMIT, 2**32 - LIMIT], 2),
+            (LIMIT, [2**31, 2**31], 2), (LIMIT, [half, half, 2**32 - LIMIT], 2)])
+
+    def test_counts(self):
+        for sizes, counts, fewest in [
+                ([5], [3], 2), ([5, 5], [1, 2], 2), ([7, 5], [2, 3], 4), ([7, 3], [2, 2], 2), ([3, 7], [4, 1], 2),
+                ([6], [10], 10), ([1], [10], 1), ([4, 3], [2, 4], 2), ([3, 4], [4, 2], 2), ([10, 1], [9, 1], 10)]:
+            with self.subTest(sizes=sizes, counts=counts):
+                self.assertEqual(self.fewest(10, sizes, counts), fewest)
+
+    def test_empty_list(self):
+        for capacity in (1, 10, LIMIT):
+            self.assertEqual(self.fewest(capacity, [], []), 0)
+
+    def test_places(self):
+        """7 for fewer than 10, whatever the list; more of them stay."""
+        for sizes, fewest in (([], 0), ([7], 1), ([7] * 10, 10)):
+            for places in (0, 1, 9, 10, 11, 40):
+                windows = [MARK] * places
+                expected = (0, fewest) if places >= 10 else (7, 0)
+                self.assertEqual(wf.exact(10, sizes, [1] * len(sizes), windows), expected)
+                due = list(range(fewest)) if places >= 10 else []
+                self.assertEqual(windows, due + [MARK] * (places - len(due)))
+
+    def assert_refused(self, number, capacity, sizes, counts, places=12):
+        windows = [MARK] * places
+        with self.subTest(capacity=capacity, sizes=sizes[:9], counts=counts[:9], places=places):
+            self.assertEqual((wf.exact(capacity, sizes, counts, windows), windows), ((number, 0), [MARK] * places))
+
+    def test_refusals(self):
+        """24 for all copies together, also where their number, cut to 16 bits, is at most 10."""
+        for number, case in [
+                (1, (0, [], [])), (1, (LIMIT + 1, [], [])), (1, (2**64 - 1, [7], [1])), (1, (2**32 + 10, [7], [1])),
+                (6, (10, [5] * 2049, [1] * 2049)), (6, (10, [5], [])), (6, (10, [5], [1, 1])), (6, (10, [], [1])),
+                (6, (10, [5] * 2049, [1] * 2048)), (6, (10, [5] * 2048, [1] * 2049)),
+                (17, (10, [0], [1])), (17, (10, [11], [1])), (17, (10, [5] * 9 + [0], [1] * 10)),
+                (17, (LIMIT, [LIMIT + 1], [1])), (17, (10, [2**32 - 1], [1])),
+                (22, (10, [5], [0])), (22, (10, [5] * 3, [1, 1, 0])), (22, (10, [5] * 2048, [1] * 2047 + [0])),
+                (24, (10, [5], [11])), (24, (10, [5] * 11, [1] * 11)), (24, (10, [5], [65_535])),
+                (24, (10, [5, 5], [10, 1])), (24, (10, [5, 5], [1, 10])), (24, (10, [5, 5], [65_535, 5])),
+                (24, (10, [5, 5], [32_768, 32_768])), (24, (10, [5] * 2048, [1] * 2048)),
+                (24, (10, [5] * 2048, [65_535] * 2048))]:
+            self.assert_refused(number, *case)
+
+    def test_order_of_refusals(self):
+        """Every choice of faults: the one that is asked first is told."""
+        order = 1, 6, 17, 22, 24, 7
+        for size in range(1, 7):
+            for faults in itertools.combinations(order, size):
+                counts = [0 if 22 in faults else 1, 1, 65_535 if 24 in faults else 2] + [1] * (6 in faults)
+                self.assert_refused(faults[0], 0 if 1 in faults else 10, [7, 0 if 17 in faults else 3, 5], counts,
+                                    9 if 7 in faults else 12)
+
+    def test_every_tiny_list(self):
+        """Against every assignment, of all lists of up to 4 copies, and of 5 and 6 whose sizes do not fall."""
+        for capacity in range(1, 6):
+            sizes = range(1, capacity + 1)
+            lists = [itertools.product(sizes, repeat=n) for n in range(5)]
+            lists += [itertools.combinations_with_replacement(sizes, n) for n in (5, 6)]
+            for copies in itertools.chain(*lists):
+                self.assertEqual(self.fewest(capacity, copies, [1] * len(copies)),
+                                 least_windows(list(copies), capacity))
+
+    def test_what_is_an_assignment(self):
+        for copies, numbers, fewest, right in [
+                ([7, 3, 5], [0, 0, 1], 2, True), ([7, 3, 5], [1, 1, 0], 2, True), ([7, 3, 5], [0, 1, 1], 2, True),
+                ([7, 3, 5], [0, 1, 0], 2, False), ([7, 3, 5], [0, 0, 2], 2, False), ([7, 3, 5], [1, 1, 2], 2, False),
+                ([7, 3, 5], [0, 1, 2], 2, False), ([3, 3, 3], [0, 0, 0], 2, False), ([], [], 0, True)]:
+            with self.subTest(numbers=numbers):
+                self.assertEqual(wf.is_assignment(10, copies, numbers, fewest), right)
+
+    def random_lists(self, seed, times):
+        rng = random.Random(seed)
+        for _ in range(times):
+            capacity = rng.randint(1, 40)
+            pairs = random_pairs(rng, rng.choice((capacity, (2 * capacity + 2) // 3)), rng.randint(0, 8), 3)
+            while len(written_out(pairs)) > 10:
+                pairs.pop()
+            yield rng, capacity, pairs
+
+    def test_as_copies_written_out(self):
+        """And in another order."""
+        for rng, capacity, pairs in self.random_lists(20, 60):
+            copies = written_out(pairs)
+            rng.shuffle(copies)
+            self.assertEqual(self.fewest(capacity, *apart(pairs)), self.fewest(capacity, copies, [1] * len(copies)))
+
+    def test_no_floor_is_above(self):
+        """Neither of a chain nor of a sweep; most are below or reach it."""
+        met = {"below": 0, "reached": 0}
+        for rng, capacity, pairs in self.random_lists(21, 150):
+            fewest = self.fewest(capacity, *apart(pairs))
+            floors = [answer(counted_job(capacity, pairs, *random_chain(rng, capacity)))[2] for _ in range(3)]
+            floors += [wf.sweep(capacity, family, *apart(pairs), 0, 40)[1] for family in range(1, 6)]
+            for floor in floors:
+                self.assertLessEqual(floor, fewest)
+                met["reached" if floor == fewest else "below"] += 1
+        self.assertGreater(min(met.values()), 100, met)
 
 
 if __name__ == "__main__":

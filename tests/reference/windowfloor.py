@@ -1,15 +1,16 @@
 """Reference for the operations of the scope document ("01") with the change
 requests for many rows, for tables of another capacity, for counts of identical
-sizes, for half of an odd window, for blocks and for finer units ("02", tickets 1,
-2, 4, 5, 6 and 7), written for clarity. Numbers may be of any size. Comments name
-the section of 01, or the ticket of 02, that a function follows."""
+sizes, for half of an odd window, for blocks, for finer units and for the fewest
+windows of short lists ("02", tickets 1, 2, 4, 5, 6, 7 and 8), written for clarity.
+Numbers may be of any size. Comments name the section of 01, or the ticket of 02,
+that a function follows."""
 
 import sys
 from functools import lru_cache
 
 LIMIT = 4_000_000_000  # capacities, parameters, scales and table entries (02, ticket 7)
 
-# Refusal numbers (01, Operations and what they refuse; 02, tickets 1, 4 and 6).
+# Refusal numbers (01, Operations and what they refuse; 02, tickets 1, 4, 6 and 8).
 ACCEPTED = 0
 BAD_CAPACITY = 1
 BAD_FAMILY = 2
@@ -34,12 +35,15 @@ NO_LEGAL_P = 20
 BAD_ROWS = 21
 COUNT_0 = 22
 BAD_BLOCKS = 23
+TOO_MANY_COPIES = 24
 
 FLOOR, CUT, ROWS = 1, 2, 3  # kinds
 KIND, CAPACITY, SIZES, FAMILY_STEP, TABLE_STEP, ROW, COUNTS, BLOCKS = 1, 2, 3, 4, 5, 6, 7, 8  # tags
 STEPS = FAMILY_STEP, TABLE_STEP
 MOST_ENTRIES, MOST_SIZES, MOST_STEPS, MOST_ROWS, MOST_BLOCKS, MOST_JOB_BYTES = 2048, 2048, 8, 64, 64, 65535
+MOST_COPIES = 10
 JOB_IMAGES, JOB_WORKING, JOB_LIST, JOB_SCALES, JOB_BLOCKS = 2048, 2048, 2047, 64, 64  # least places
+EXACT_WINDOWS = 10  # least places
 
 
 # 01, Words
@@ -585,18 +589,22 @@ def job(data, images, working, lst, scales, blocks):
 
 # 01, Operations: Sweep
 
+def counted_list_refusal(capacity, sizes, counts):
+    """Operations, Sweep; 02, tickets 4 and 8: refusals 6, 17 and 22 of a list that is in no job, or 0."""
+    if len(sizes) > MOST_SIZES or len(counts) != len(sizes):
+        return BAD_COUNT
+    return list_refusal(FLOOR, capacity, sizes, counts)
+
+
 def sweep_refusal(capacity, family, sizes, counts, low, high):
     """Operations, Sweep; 02, ticket 4: refusals 1, 2, 6, 17, 22 and 19, or 0."""
     if capacity_refused(capacity):
         return BAD_CAPACITY
     if not 1 <= family <= 5:
         return BAD_FAMILY
-    if len(sizes) > MOST_SIZES or len(counts) != len(sizes):
-        return BAD_COUNT
-    if any(size == 0 or size > capacity for size in sizes):
-        return BAD_SIZE
-    if 0 in counts:
-        return COUNT_0
+    number = counted_list_refusal(capacity, sizes, counts)
+    if number != ACCEPTED:
+        return number
     if low > high or high - low > 4095:
         return BAD_RANGE
     return ACCEPTED
@@ -620,6 +628,76 @@ def sweep(capacity, family, sizes, counts, low, high):
         return NO_LEGAL_P, 0, 0
     largest = max(floor for floor, p in floors)
     return ACCEPTED, largest, min(p for floor, p in floors if floor == largest)
+
+
+# 02, ticket 8: Exact
+
+def exact_refusal(capacity, sizes, counts, windows):
+    """02, ticket 8: refusals 1, 6, 17, 22, 24 and 7, or 0."""
+    if capacity_refused(capacity):
+        return BAD_CAPACITY
+    number = counted_list_refusal(capacity, sizes, counts)
+    if number != ACCEPTED:
+        return number
+    if sum(counts) > MOST_COPIES:
+        return TOO_MANY_COPIES
+    if len(windows) < EXACT_WINDOWS:
+        return SHORT_BUFFER
+    return ACCEPTED
+
+
+def copies_of(sizes, counts):
+    """02, ticket 8: each copy's size, in list order."""
+    return [size for size, count in zip(sizes, counts, strict=True) for _ in range(count)]
+
+
+def parts_with_first(group):
+    """The parts of a group that have its first copy. Bit i of a group stands for copy i."""
+    first = group & -group
+    others = part = group - first
+    while part > 0:
+        yield first | part
+        part = (part - 1) & others
+    yield first
+
+
+def best_windows(capacity, copies):
+    """02, ticket 8: as few windows as can be, each a group of copies. A group needs a window for its first copy, and
+    those of the copies that are not in it."""
+    totals, best = [0], [()]
+    for group in range(1, 2**len(copies)):
+        last = group.bit_length() - 1
+        totals.append(totals[group - 2**last] + copies[last])
+        best.append(min(((part,) + best[group - part] for part in parts_with_first(group) if totals[part] <= capacity),
+                        key=len))
+    return best[-1]
+
+
+def exact(capacity, sizes, counts, windows):
+    """02, ticket 8 -> (number, fewest)."""
+    number = exact_refusal(capacity, sizes, counts, windows)
+    if number != ACCEPTED:
+        return number, 0
+    copies = copies_of(sizes, counts)
+    best = best_windows(capacity, copies)
+    for window, group in enumerate(best):
+        for copy in range(len(copies)):
+            if group >> copy & 1:
+                windows[copy] = window
+    return ACCEPTED, len(best)
+
+
+def fits(capacity, copies, numbers):
+    """02, ticket 8: no window's copies total more than the capacity."""
+    loads = dict.fromkeys(numbers, 0)
+    for size, window in zip(copies, numbers, strict=True):
+        loads[window] += size
+    return all(load <= capacity for load in loads.values())
+
+
+def is_assignment(capacity, copies, numbers, fewest):
+    """02, ticket 8: it fits, and its window numbers are those from 0 and below the fewest. Which it is is free."""
+    return fits(capacity, copies, numbers) and set(numbers) == set(range(fewest))
 
 
 # 01, The hand-over program

@@ -11,6 +11,7 @@
 #include <stdlib.h>
 #include <string.h>
 
+#include "../c/assignment.h"
 #include "windowfloor.h"
 
 enum { ROOM_BYTES = 2 * 65536, ROOM_PLACES = 4096, MARGIN = 16 };
@@ -221,25 +222,66 @@ static size_t ones(uint16_t *out, size_t count)
     return count;
 }
 
-/* A case without counts is called with a one for each size. */
+/* The list of a sweep or of an exact case. Without counts there is a one for each size. */
+
+struct list {
+    uint32_t sizes[ROOM_PLACES];
+    uint16_t counts[ROOM_PLACES];
+    size_t n, counted;
+};
+
+static void read_list(struct list *list)
+{
+    list->n = numbers("sizes", list->sizes);
+    list->counted = find("counts", "") != NULL ? given_counts(list->counts) : ones(list->counts, list->n);
+}
+
 static void sweep(void)
 {
-    static uint32_t sizes[ROOM_PLACES];
-    static uint16_t counts[ROOM_PLACES];
-    size_t n = numbers("sizes", sizes);
-    size_t counted = find("counts", "") != NULL ? given_counts(counts) : ones(counts, n);
+    static struct list list;
+    read_list(&list);
     struct windowfloor_sweep_answer answer =
-        windowfloor_sweep(number("capacity"), (uint8_t)number("family"), sizes, n, counts, counted,
-                          number("low"), number("high"));
+        windowfloor_sweep(number("capacity"), (uint8_t)number("family"), list.sizes, list.n, list.counts,
+                          list.counted, number("low"), number("high"));
     PRINT(answer, number);
     PRINT(answer, floor);
     PRINT(answer, p);
 }
 
+/* Whether the first places show an assignment of the copies; they then are as before the call, since which
+ * it is is free. */
+static int take_assignment(struct lent *windows, const struct list *list, uint64_t capacity, uint64_t fewest)
+{
+    uint32_t copies[WINDOWFLOOR_MOST_COPIES], *shown = (uint32_t *)windows->memory + MARGIN;
+    size_t n = write_copies(list->sizes, list->n, list->counts, copies);
+    int fits = is_assignment(capacity, copies, n, shown, fewest);
+    for (size_t i = 0; i < n; i++)
+        shown[i] = (uint32_t)untouched(windows, MARGIN + i);
+    return fits;
+}
+
+/* The places of the copies are told as `fits` alone, 0 if refused. */
+static void exact(void)
+{
+    static struct list list;
+    static struct lent windows;
+    uint64_t capacity = number("capacity");
+    read_list(&list);
+    uint32_t *lent_windows = lend(&windows, "windows", 4, 10);
+    struct windowfloor_exact_answer answer =
+        windowfloor_exact(capacity, list.sizes, list.n, list.counts, list.counted, lent_windows,
+                          windows.places);
+    PRINT(answer, number);
+    PRINT(answer, fewest);
+    printf(" fits=%d", answer.number == 0 && take_assignment(&windows, &list, capacity, answer.fewest));
+    print_buffer(&windows);
+}
+
 static const struct {
     const char *name;
     void (*run)(void);
-} operations[] = {{"image", image}, {"table", table}, {"job", job}, {"sweep", sweep}};
+} operations[] = {{"image", image}, {"table", table}, {"job", job}, {"sweep", sweep},
+                  {"exact", exact}};
 
 static void run_line(void)
 {

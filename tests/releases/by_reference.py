@@ -52,17 +52,31 @@ def job(given):
     return answer | {name: changed(places) for name, places in buffers.items()}
 
 
-def sweep(given):
+def counted(given):
     """A case without counts is called with a one for each size."""
-    ones = dict(counts=[1] * len(given["sizes"]))
-    return named("number floor p", wf.sweep(**(ones | given)))
+    return dict(counts=[1] * len(given["sizes"])) | given
+
+
+def sweep(given):
+    return named("number floor p", wf.sweep(**counted(given)))
+
+
+def exact(given):
+    """Which assignment is shown is free: whether it fits is told, and its places are left out."""
+    windows, given = lend(given, "windows", 10), counted(given)
+    capacity, sizes, counts = given["capacity"], given["sizes"], given["counts"]
+    number, fewest = wf.exact(capacity, sizes, counts, windows)
+    copies = wf.copies_of(sizes, counts) if number == wf.ACCEPTED else []
+    fits = number == wf.ACCEPTED and wf.is_assignment(capacity, copies, windows[:len(copies)], fewest)
+    behind = {place: window for place, window in changed(windows).items() if place >= len(copies)}
+    return dict(number=number, fewest=fewest, fits=int(fits), windows=behind)
 
 
 def text(given):
     return dict(status=0, errors=0, text=wf.program(given["job"]).decode())
 
 
-OPERATIONS = dict(image=image, table=table, job=job, sweep=sweep, text=text)
+OPERATIONS = dict(image=image, table=table, job=job, sweep=sweep, exact=exact, text=text)
 
 
 def answer(operation, given):

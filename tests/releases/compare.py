@@ -4,19 +4,22 @@ releases: python3 tests/releases/compare.py
 Every field and every place of every buffer that a stored answer has must be the
 same today, and what requests have added to the answer since then must have its
 neutral value, but for the rules in exceptions.py. What an answer must be under a
-rule, by the independent implementation, the C reference must say too. Exits with 1
-if an answer differs, if a file of cases is missing, empty or not as long as the
-list of releases says, and if a rule is about no stored case."""
+rule, by the independent implementation, the C reference must say too. Of the newest
+operation both have to say what is stored. Exits with 1 if an answer differs, if a
+file of cases is missing, empty or not as long as the list of releases says, and if a
+rule is about no stored case."""
 
 import sys
 from collections import Counter
 
 sys.dont_write_bytecode = True
+import by_reference
 import today
 from exceptions import EXCEPTIONS
 from stored import FOLDER, case_file, pack, read_file, read_list
 
 SHOWN = 5  # differences shown in full
+NEWEST = "exact"  # the operation that the fewest releases have answered
 
 
 def read_cases(folder):
@@ -72,12 +75,20 @@ def difference(case, answer, due, who="today"):
     return "\n".join(word if len(word) <= 400 else word[:400] + " ..." for word in words)
 
 
-def differences_of_c(operation, ruled):
-    """Where the C reference differs from what is due under a rule. It prints no text."""
+def differences_of_c(operation, asked):
+    """Where the C reference differs from what is due. It prints no text."""
     if operation == "text":
         return []
-    answers = today.by_c_reference(operation, [case.given for case, _ in ruled])
-    return [difference(case, answer, due, "C") for (case, due), answer in zip(ruled, answers)]
+    answers = today.by_c_reference(operation, [case.given for case, _ in asked])
+    return [difference(case, answer, due, "C") for (case, due), answer in zip(asked, answers)]
+
+
+def differences_of_references(operation, asked):
+    """Where the C reference differs from what is due, and, of the newest operation, the one in Python."""
+    differ = differences_of_c(operation, asked)
+    if operation == NEWEST:
+        differ += [difference(case, by_reference.answer(operation, case.given), due, "Python") for case, due in asked]
+    return differ
 
 
 def compare(folder, exceptions):
@@ -86,15 +97,15 @@ def compare(folder, exceptions):
     releases = list(dict.fromkeys(release for release, _ in cases))
     compared, excepted = Counter(), Counter()
     for (release, operation), stored in cases.items():
-        ruled = []
+        asked = []
         for case, answer in zip(stored, today.answers(operation, [case.given for case in stored])):
             rules = dict(rules_for(case, exceptions, releases))
             excepted.update(list(rules))
             due = expected(case, rules.values())
             compared[release] += bool(due)
-            ruled += [(case, due)] * bool(rules)
+            asked += [(case, due)] * (bool(rules) or operation == NEWEST)
             wrong += filter(None, [difference(case, answer, due)])
-        wrong += filter(None, differences_of_c(operation, ruled))
+        wrong += filter(None, differences_of_references(operation, asked))
     for release in releases:
         print(f"{release}: {compared[release]} cases compared")
     for number, rule in enumerate(exceptions):

@@ -6,7 +6,7 @@ never about what was answered or is answered now:
     Rule(request, operations, applies, why, fields=(), now=None)
 
     request     the number of the request that changes the answers
-    operations  of image, table, job, sweep, text
+    operations  of image, table, job, sweep, exact, text
     applies     whether the rule is about an input: a function of what is given,
                 a dictionary with the names of the stored form
     why         the request's words, in a sentence

@@ -55,8 +55,9 @@ OLD_LIMIT = dict(  # answers that request 7 changes
     text="job=01000101.02000477359400.03000477359400 -> status=0 errors=0 text='refused 1 0\\n'",
     sweep="capacity=10 family=2 sizes=6*3 low=100000001 high=100000001 -> number=20 floor=0 p=0")
 SWEEP = "capacity=10 family=1 sizes=6*3 low=0 high=5 -> number=0 floor=3 p=5"
+EXACT = "capacity=10 sizes=7,3,5 counts=1,1,2 -> number=0 fewest=2 fits=1 windows=same"
 TEXT = "job= -> status=0 errors=0 text='refused 14 0\\n'"
-CASES = dict(image=IMAGE, table=TABLE, job=JOB, sweep=SWEEP, text=TEXT)
+CASES = dict(image=IMAGE, table=TABLE, job=JOB, sweep=SWEEP, exact=EXACT, text=TEXT)
 BAD_TABLES = tabled(1, 0, 1), tabled(0, 1, 0), tabled(0, 0, LIMIT + 1), tabled(0, 1, 1)  # 8 to 11, of capacity 2
 
 
@@ -95,7 +96,7 @@ class Comparison(unittest.TestCase):
         self.assert_fails(f"base/{operation}.txt, line 1: {field}", {operation: changed})
 
     def test_right_answers(self):
-        self.assert_passes("base: 5 cases compared", CASES)
+        self.assert_passes("base: 6 cases compared", CASES)
         self.assert_passes("base: 1 cases compared", dict(job=ROWS))
         self.assert_passes("base: 1 cases compared", dict(job=BLOCKS))
 
@@ -107,6 +108,8 @@ class Comparison(unittest.TestCase):
                 ("table", "0:0,1,2,3", "0:0,1,2,3,5", "working"), ("table", "0:1,1,1", "0:1,1", "list"),
                 ("table", "0:1,1,1", "same", "list"), ("job", "sum=6", "sum=7", "sum"),
                 ("job", "images=0:6", "images=same", "images"), ("job", "list=same", "list=2046:1", "list"),
+                ("exact", "fewest=2", "fewest=3", "fewest"), ("exact", "number=0", "number=24", "number"),
+                ("exact", "fits=1", "fits=0", "fits"), ("exact", "windows=same", "windows=4:1", "windows"),
                 ("text", "14 0\\n", "14 0", "text"), ("text", "status=0", "status=1", "status"),
                 ("text", "errors=0", "errors=2", "errors")):
             self.assert_finds(operation, CASES[operation], old, new, field)
@@ -163,6 +166,22 @@ class Comparison(unittest.TestCase):
         self.assert_sweeps("number=22 floor=0 p=0", "sizes=6*3 counts=1,0,1", "counts=0 sizes=6")
         self.assert_sweeps("number=6 floor=0 p=0", "sizes=6*3 counts=", "sizes=6*3 counts=1*2", "sizes= counts=1")
 
+    def assert_exact(self, answer, *lists):
+        """The library and both references give this answer for each list."""
+        for words in lists:
+            self.assert_passes("1 cases compared", dict(exact=f"capacity=10 {words} -> {answer}"))
+
+    def test_exact(self):
+        """Without counts it is called with ones; of the buffer the places behind the copies are compared."""
+        self.assert_exact("number=0 fewest=3 fits=1 windows=same", "sizes=6*3", "sizes=6*3 counts=1*3",
+                          "counts=3 sizes=6", "sizes=4*5", "sizes=6*3 windows_places=10", "sizes=6*3 windows_places=40")
+        self.assert_exact("number=0 fewest=0 fits=1 windows=same", "sizes=", "sizes= counts=")
+        self.assert_exact("number=0 fewest=10 fits=1 windows=same", "sizes=6*10", "sizes=6 counts=10")
+        self.assert_exact("number=24 fewest=0 fits=0 windows=same", "sizes=6*11", "sizes=6,6 counts=65535,5")
+        self.assert_exact("number=7 fewest=0 fits=0 windows=same", "sizes= windows_places=9",
+                          "sizes=6 windows_places=0")
+        self.assert_exact("number=6 fewest=0 fits=0 windows=same", "sizes=6*2049", "sizes=6 counts=1,1")
+
     def test_files(self):
         for operation, line in CASES.items():
             self.assert_fails("has 0 cases, and 1 are listed", {operation: None})
@@ -181,7 +200,7 @@ class Comparison(unittest.TestCase):
 
     def test_a_rule_about_no_case(self):
         of_four = Rule(2, ("image",), lambda given: given["p"] == 4, "thresholds of 4")
-        for rule in (of_four, Rule(2, ("exact",), always, "none"), Rule(2, (), always, "none")):
+        for rule in (of_four, Rule(2, ("other",), always, "none"), Rule(2, (), always, "none")):
             self.assert_fails("a rule of request 2 is about no stored case", CASES, [rule])
 
     def test_a_rule_of_some_fields(self):
@@ -197,13 +216,22 @@ class Comparison(unittest.TestCase):
             self.assertEqual(passes(wrong, [rule])[0], right)
 
     def test_what_the_c_reference_says(self):
-        """It is asked where a rule says what the answer is instead, and nowhere else."""
+        """It is asked where a rule says what the answer is instead and for the newest operation, and nowhere else."""
         rule = Rule(2, ("image",), always, "all", now=by_reference.answer)
         wrong = dict(number=0, image=9, scale=10)
         with mock.patch.object(today, "by_c_reference", lambda operation, inputs: [wrong for _ in inputs]):
             self.assert_fails("  C  image=9", dict(image=IMAGE), [rule])
             self.assert_passes("1 cases compared", dict(image=IMAGE))
         self.assert_passes("request 2: 1 cases", dict(image=IMAGE), [rule])
+        wrong = dict(number=0, fewest=3, fits=1, windows={})
+        with mock.patch.object(today, "by_c_reference", lambda operation, inputs: [wrong for _ in inputs]):
+            self.assert_fails("  C  fewest=3", dict(exact=EXACT))
+
+    def test_what_the_reference_in_python_says(self):
+        """It is asked for the newest operation."""
+        with mock.patch.object(wf, "best_windows", lambda capacity, copies: [1, 2, 12]):
+            self.assert_fails("  Python  fewest=3", dict(exact=EXACT))
+        self.assert_passes("1 cases compared", dict(exact=EXACT))
 
     def test_a_rule_is_about_earlier_releases(self):
         rule = Rule(2, ("image",), always, "all images")
@@ -235,7 +263,6 @@ class Comparison(unittest.TestCase):
         changed = dict(job="number, n, floor, sum, scale, images, total, blocks", text="text")
         for operation, line in OUT_OF_PLACE.items():
             self.assert_changed(6, operation, line, changed[operation])
-
 
     def test_numbers_over_the_old_limit(self):
         changed = dict(image="number, image, scale", table="number, working", text="text", sweep="number, floor, p",

@@ -22,10 +22,10 @@ use Rattle.blocks.specs.Block.{Block, divide}
 use Rattle.blocks.specs.Sums.{sumUp, Counted, countsOf}
 use Rattle.blocks.proofs.Dividing.{divide-count, blockAt, divide-more}
 
--- numbers added up one after the other
-pub record AddedUp (numbers : List ℕ) (sum i : ℕ) : Type 0 where
+-- numbers of at most `most` added up one after the other
+pub record AddedUp (most : ℕ) (numbers : List ℕ) (sum i : ℕ) : Type 0 where
   pub sum-is : sum ≡ total (take i numbers)
-  pub sum-most : sum ≤ i * mostCount
+  pub sum-most : sum ≤ i * most
 
 pub total-next : (numbers : List ℕ) (i : ℕ) → i < length numbers → total (take (suc i) numbers) ≡ total (take i numbers) + getD numbers i 0
 total-next numbers i l =
@@ -33,15 +33,15 @@ total-next numbers i l =
     ∙ total-append (take i numbers) (getD numbers i 0 ∷ [])
     ∙ omega (arith, total-cons (getD numbers i 0) [], total-none)
 
-module _ (numbers : List ℕ) where
-  pub added-none : AddedUp numbers 0 0
+module _ (most : ℕ) (numbers : List ℕ) where
+  pub added-none : AddedUp most numbers 0 0
   added-none = record { sum-is = sym total-none; sum-most = omega arith }
 
-  pub added-next : (sum i n : ℕ) → AddedUp numbers sum i → i < length numbers → n ≡ getD numbers i 0 → n < 2 ^ 16 → AddedUp numbers (sum + n) (i + 1)
+  pub added-next : (sum i n : ℕ) → AddedUp most numbers sum i → i < length numbers → n ≡ getD numbers i 0 → n ≤ most → AddedUp most numbers (sum + n) (i + 1)
   added-next sum i n s l is small =
       record { sum-is = rw add-one (omega (arith, s .sum-is, total-next numbers i l, is)); sum-most = omega (arith, s .sum-most) }
 
-  pub added-all : (sum i : ℕ) → AddedUp numbers sum i → length numbers ≤ i → sum ≡ total numbers
+  pub added-all : (sum i : ℕ) → AddedUp most numbers sum i → length numbers ≤ i → sum ≡ total numbers
   added-all sum i s l = s .sum-is ∙ ap total (take-all i numbers l)
 
 -- n numbers of two bytes from a place on

@@ -83,7 +83,7 @@ load-of f b (x ∷ xs) (a ∷ bins) = go (eqb a b) (load-of f b xs bins)
 load-is : (b : ℕ) (xs bins : List ℕ) → load b xs bins ≡ total (select b xs bins)
 load-is b xs bins = simp map-id at (load-of (λ x. x) b xs bins)
 
-either : (a b : Bool) → a || b ≡ true → (a ≡ true) ⊎ (b ≡ true)
+pub either : (a b : Bool) → a || b ≡ true → (a ≡ true) ⊎ (b ≡ true)
 either true b e = inl refl
 either false b e = inr e
 
@@ -98,10 +98,10 @@ counted a x (w ∷ ws) e = rw (total-cons _ _) (go (either (eqb w a) (member a w
     go (inr later) rest = omega (arith, rest later)
 
 -- every bin that is used stands in `ws`
-Covers : List ℕ → List ℕ → Type 0
+unfoldable pub Covers : List ℕ → List ℕ → Type 0
 Covers ws bins = (b : ℕ) → member b bins ≡ true → member b ws ≡ true
 
-covered : (ws xs bins : List ℕ) → length bins ≡ length xs → Covers ws bins → total xs ≤ total (map (λ w. load w xs bins) ws)
+pub covered : (ws xs bins : List ℕ) → length bins ≡ length xs → Covers ws bins → total xs ≤ total (map (λ w. load w xs bins) ws)
 unfolding load member Covers
 covered ws [] bins l c = omega (arith, total-none)
 covered ws (x ∷ xs) [] l c = absurd (omega arith)
@@ -110,7 +110,7 @@ covered ws (x ∷ xs) (a ∷ bins) l c =
     let here = counted a x ws (c a (rw (eq-eqb a a refl))) in
     omega (arith, rest, here, total-cons x xs, total-plus (λ w. cond (eqb a w) x 0) (λ w. load w xs bins) ws)
 
-distinct-covers : (bins : List ℕ) → Covers (distinct bins) bins
+pub distinct-covers : (bins : List ℕ) → Covers (distinct bins) bins
 unfolding Covers member distinct
 distinct-covers [] b e = e
 distinct-covers (a ∷ bins) b e = go (member a bins) refl (either (eqb a b) (member b bins) e) (distinct-covers bins b)
@@ -122,7 +122,7 @@ distinct-covers (a ∷ bins) b e = go (member a bins) refl (either (eqb a b) (me
     go false is (inr later) rest = rw (rest later) (or-true (eqb a b))
 
 -- the total over the copies is the weighted sum: floors and cuts both rest on it
-copies-total : (f : ℕ → ℕ) (counts sizes : List ℕ) → total (map f (copies counts sizes)) ≡ weighted counts (map f sizes)
+pub copies-total : (f : ℕ → ℕ) (counts sizes : List ℕ) → total (map f (copies counts sizes)) ≡ weighted counts (map f sizes)
 unfolding copies
 copies-total f [] sizes = total-none ∙ sym (weighted-no-counts (map f sizes))
 copies-total f (n ∷ counts) [] = total-none ∙ sym (weighted-none (n ∷ counts))

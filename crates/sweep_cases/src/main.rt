@@ -11,9 +11,6 @@ ghost use lib.ListN.{length};
 // The most bytes of standard input that are read.
 const MOST_BYTES: usize = 262_144;
 
-// The most sizes of a case, more than a list may have, the most counts, and the most runs.
-const MOST_SIZES: usize = 2_100;
-
 // The numbers of a case before its list, and the place behind them.
 struct Head {
     capacity: u64,
@@ -39,35 +36,6 @@ fn read_head(text: &[u8], at: usize) -> Head
     }
 }
 
-// Fills a run from a place on, as far as it fits, and answers the place behind it.
-fn put_run(sizes: &mut [u32], from: usize, count: u64, first: u32, step: u32) -> usize
-    requires { ⌜ from ≤ length (now sizes) ⌝ }
-    ensures { λ r. ⌜ r ≤ length (now (sizes .entry)) ⌝ }
-{
-    let end = from + buffers::at_most(count, sizes.len() - from);
-    buffers::fill(&mut sizes[from..end], first, step);
-    end
-}
-
-// Fills the runs from a place of the text on and answers the place behind them.
-fn put_runs(text: &[u8], from: usize, sizes: &mut [u32], runs: usize) -> usize
-    ensures { λ r. ⌜ from ≤ r ⌝ }
-{
-    let mut at = from;
-    let mut end = 0;
-    let mut i = 0;
-    while i < runs {
-        let count = decimal::number_at(text, at);
-        let first = decimal::number_at(text, count.next);
-        let step = decimal::number_at(text, first.next);
-        let low = buffers::low_bits(first.value);
-        end = put_run(sizes, end, count.value, low, buffers::low_bits(step.value));
-        at = step.next;
-        i += 1;
-    }
-    at
-}
-
 fn write_answer(answer: sweeps::SweepAnswer) {
     io::print_decimal(STDOUT_FILENO, answer.number);
     io::write_all(STDOUT_FILENO, b" ");
@@ -75,14 +43,6 @@ fn write_answer(answer: sweeps::SweepAnswer) {
     io::write_all(STDOUT_FILENO, b" ");
     io::print_decimal(STDOUT_FILENO, answer.p);
     io::write_all(STDOUT_FILENO, b"\n");
-}
-
-// Makes a list from k and the runs at a place and answers the place behind them.
-fn put_list(text: &[u8], at: usize, list: &mut [u32]) -> usize
-    ensures { λ r. ⌜ at ≤ r ⌝ }
-{
-    let k = decimal::number_at(text, at);
-    put_runs(text, k.next, list, buffers::at_most(k.value, MOST_SIZES))
 }
 
 // Makes the counts from j and the runs at a place, sweeps, and answers the place behind them.
@@ -96,8 +56,7 @@ fn run_counted(
 ) -> usize
     ensures { λ r. ⌜ at ≤ r ⌝ }
 {
-    let end = put_list(text, at, numbers);
-    buffers::fill_halves(counts, numbers);
+    let end = runs::put_counts(text, at, numbers, counts);
     write_answer(sweeps::windowfloor_sweep(
         head.capacity,
         head.family,
@@ -113,11 +72,11 @@ fn run_counted(
 fn run_sweep(text: &[u8], at: usize, head: Head, sizes: &mut [u32]) -> usize
     ensures { λ r. ⌜ at ≤ r ⌝ }
 {
-    let end = put_list(text, at, sizes);
+    let end = runs::put_list(text, at, sizes);
     let m = decimal::number_at(text, end);
-    let count = buffers::at_most(m.value, MOST_SIZES);
-    let mut numbers = [0u32; MOST_SIZES];
-    let mut counts = [0u16; MOST_SIZES];
+    let count = buffers::at_most(m.value, runs::MOST_NUMBERS);
+    let mut numbers = [0u32; runs::MOST_NUMBERS];
+    let mut counts = [0u16; runs::MOST_NUMBERS];
     run_counted(
         text,
         m.next,
@@ -134,8 +93,8 @@ fn run_case(text: &[u8], at: usize) -> usize
 {
     let head = read_head(text, at);
     let n = decimal::number_at(text, head.next);
-    let count = buffers::at_most(n.value, MOST_SIZES);
-    let mut sizes = [0u32; MOST_SIZES];
+    let count = buffers::at_most(n.value, runs::MOST_NUMBERS);
+    let mut sizes = [0u32; runs::MOST_NUMBERS];
     run_sweep(text, n.next, head, &mut sizes[..count])
 }
 

@@ -27,8 +27,10 @@ use Rattle.fields.specs.Grammar.{mostSizes}
 use Rattle.chains.specs.Chain.{stepImage, stepScale, stepRefusal, chainImage, chainScale, ChainAccepted, chainFloor}
 use Rattle.jobs.specs.Packing.{copies, Fits, binsUsed}
 use Rattle.chains.specs.Sizes.{sizesWithin, countsPositive}
-use Rattle.sweeps.specs.Sweep.{widest, countedRefusal, rangeRefusal, sweepRefusal, sweepFloor, passes, passing, largest, firstWith, refusedSweep, bestOf, sweepAnswer}
-use Rattle.sweeps.specs.Progress.{Sweepable, SweepSum, SumAt, SumBefore, Better, WithParameter}
+use Rattle.lists.specs.Counted.{countedRefusal, CountedList}
+use Rattle.lists.proofs.Passed.{counted, of-counted}
+use Rattle.sweeps.specs.Sweep.{widest, rangeRefusal, sweepRefusal, sweepFloor, passes, passing, largest, firstWith, refusedSweep, bestOf, sweepAnswer}
+use Rattle.sweeps.specs.Progress.{SweepSum, SumAt, SumBefore, Better, WithParameter}
 use Rattle.sweeps.specs.declared.SweepAnswer.{SweepAnswer}
 use Rattle.jobs.proofs.Promise.{chain-is-safe}
 use Rattle.chains.proofs.SizeTests.{sizes-most}
@@ -99,7 +101,7 @@ module _ (f : ℕ → ℕ) where
         let same : largest (map f ((q ∷ ps) ++ (p ∷ []))) ≡ f p = omega (arith, largest-more (q ∷ ps) (p ∷ []), largest-one p) in
         rw (same, first-new (f p) p (q ∷ ps) (omega arith) refl)
 
-module _ (c : ℕ) (sizes counts : List ℕ) (fine : Sweepable c sizes counts) where
+module _ (c : ℕ) (sizes counts : List ℕ) (fine : CountedList c sizes counts) where
   pub sizes-each : EachWithin c sizes
   sizes-each = sizes-most 1 c sizes (fine .within)
 
@@ -167,7 +169,7 @@ module _ (c family : ℕ) (sizes counts : List ℕ) where
       turn-passes = accepted-passes c family p turn-accepted
 
       -- the floor as the code computes it
-      module _ (fine : Sweepable c sizes counts) (sum : ℕ) (summed : SweepSum c family sizes counts p sum) where
+      module _ (fine : CountedList c sizes counts) (sum : ℕ) (summed : SweepSum c family sizes counts p sum) where
         pub roundable : (0 < judged .scale) × (sum + (judged .scale - 1) < 2 ^ 64)
         roundable =
             (omega (arith, scale-family, promise .scale-positive), omega (arith, scale-family, promise .scale-within-limit, summed .sum-most, fine .few))
@@ -210,26 +212,23 @@ best-floor f (p ∷ ps) = refl
 pub record SweepFine (c : ℕ) (sizes counts : List ℕ) (low high : ℕ) : Type 0 where
   pub capacity-positive : 1 ≤ c
   pub capacity-within-limit : c ≤ limit
-  pub sweepable : Sweepable c sizes counts
+  pub list : CountedList c sizes counts
   pub ascending : low ≤ high
   pub narrow : high - low ≤ widest
 
 module _ (c family : ℕ) (sizes counts : List ℕ) (low high : ℕ) where
   pub sweep-fine : sweepRefusal c family sizes counts low high ≡ 0 → SweepFine c sizes counts low high
-  unfolding sweepRefusal countedRefusal rangeRefusal
+  unfolding sweepRefusal rangeRefusal
   sweep-fine e =
       let one = passed (capacityFits c) 1 _ (omega arith) e in
       let two = passed (leb 1 family && leb family 5) 2 _ (omega arith) (one .1) in
       let both = then-zero (countedRefusal c sizes counts) (rangeRefusal low high) (two .1) in
-      let six = not-refused (ltb mostSizes (length sizes) || not (eqb (length counts) (length sizes))) 6 _ (omega arith) (both .0) in
-      let lengths = neither (ltb mostSizes (length sizes)) (not (eqb (length counts) (length sizes))) (six .0) in
-      let seventeen = passed (sizesWithin 1 c sizes) 17 _ (omega arith) (six .1) in
       let nineteen = neither (ltb high low) (ltb widest (high - low)) (not-refused _ 19 0 (omega arith) (both .1) .0) in
       let capacity = capacity-bounds c (one .0) in
       record {
         capacity-positive = capacity .0;
         capacity-within-limit = capacity .1;
-        sweepable = record { within = seventeen .0; few = ltb-false mostSizes (length sizes) (lengths .0); one-each = eqb-true _ _ (not-false _ (lengths .1)) };
+        list = counted c sizes counts (both .0);
         ascending = ltb-false high low (nineteen .0);
         narrow = ltb-false widest (high - low) (nineteen .1);
       }
@@ -239,15 +238,13 @@ module _ (c family : ℕ) (sizes counts : List ℕ) (low high : ℕ) where
 
   -- 20 is told of a range alone
   pub sweep-other : sweepRefusal c family sizes counts low high ≡ 20 → ⊥
-  unfolding sweepRefusal countedRefusal rangeRefusal
+  unfolding sweepRefusal rangeRefusal
   sweep-other =
       of-both Other (not (capacityFits c)) 1 _ (λ e. omega arith)
       (of-both Other (not (leb 1 family && leb family 5)) 2 _ (λ e. omega arith)
       (of-both Other (eqb (countedRefusal c sizes counts) 0) (rangeRefusal low high) (countedRefusal c sizes counts)
       (of-both Other (ltb high low || ltb widest (high - low)) 19 0 (λ e. omega arith) (λ e. omega arith))
-      (of-both Other (ltb mostSizes (length sizes) || not (eqb (length counts) (length sizes))) 6 _ (λ e. omega arith)
-      (of-both Other (not (sizesWithin 1 c sizes)) 17 _ (λ e. omega arith)
-      (of-both Other (not (countsPositive counts)) 22 0 (λ e. omega arith) (λ e. omega arith))))))
+      (of-counted c sizes counts Other (λ e. omega arith) (λ e. omega arith) (λ e. omega arith) (λ e. omega arith))))
 
   pub sweep-refused : (sweepRefusal c family sizes counts low high ≡ 0 → ⊥) → sweepAnswer c family sizes counts low high ≡ refusedSweep (sweepRefusal c family sizes counts low high)
   unfolding sweepAnswer

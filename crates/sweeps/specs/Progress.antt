@@ -6,16 +6,8 @@ use Prim.Native.Nat.{ℕ, _-_, _*_, _≤_}
 use lib.ListN.{length}
 use Rattle.functions.specs.Words.{limit, mostCount, weighted}
 use Rattle.functions.specs.Families.{familyImage}
-use Rattle.fields.specs.Grammar.{mostSizes}
-use Rattle.chains.specs.Sizes.{sizesWithin}
 use Rattle.sweeps.specs.Sweep.{sweepFloor, passes, bestOf}
 use Rattle.sweeps.specs.declared.SweepAnswer.{SweepAnswer}
-
--- sizes and counts that refusals 6 and 17 leave
-pub record Sweepable (c : ℕ) (sizes counts : List ℕ) : Type 0 where
-  pub within : sizesWithin 1 c sizes ≡ true
-  pub few : length sizes ≤ mostSizes
-  pub one-each : length counts ≡ length sizes
 
 -- the weighted sum of the step with p alone, and how great it is
 pub record SweepSum (c family : ℕ) (sizes counts : List ℕ) (p sum : ℕ) : Type 0 where

@@ -3,24 +3,15 @@ use mathlib.Core.Bool.{Bool, cond, not, _&&_, _||_}
 use mathlib.Core.List.{List, [], _∷_, _++_, map}
 use Prim.Native.Nat.{ℕ, zero, suc, _+_, _-_, max}
 use lib.Dec.{leb, ltb, eqb}
-use lib.ListN.{length}
 use Rattle.functions.specs.Words.{capacityFits}
 use Rattle.fields.specs.Parts.{onFamily}
-use Rattle.fields.specs.Grammar.{mostSizes}
 use Rattle.chains.specs.Chain.{stepRefusal, chainFloor}
-use Rattle.chains.specs.Sizes.{sizesWithin, countsPositive}
+use Rattle.lists.specs.Counted.{countedRefusal}
 use Rattle.sweeps.specs.declared.SweepAnswer.{SweepAnswer}
 
 -- the most that high is above low
 abbrev pub widest : ℕ
 widest = 4_095
-
--- a list of sizes with their counts outside of a job: 6, over 2,048 sizes or not a count for each; 17; 22
-unfoldable pub countedRefusal : ℕ → List ℕ → List ℕ → ℕ
-countedRefusal c sizes counts =
-    cond (ltb mostSizes (length sizes) || not (eqb (length counts) (length sizes))) 6
-    (cond (not (sizesWithin 1 c sizes)) 17
-    (cond (not (countsPositive counts)) 22 0))
 
 unfoldable pub rangeRefusal : ℕ → ℕ → ℕ
 rangeRefusal low high = cond (ltb high low || ltb widest (high - low)) 19 0

@@ -3,10 +3,9 @@ use crate::SweepAnswer;
 ghost use mathlib.Core.Path.{_≡_};
 ghost use mathlib.Core.Bool.{true};
 ghost use Prim.Native.Nat.{suc, _-_, _≤_};
-ghost use Rattle.chains.specs.Sizes.{sizesWithin, countsPositive};
+ghost use Rattle.lists.specs.Counted.{CountedList};
 ghost use Rattle.sweeps.specs.Sweep.{
   widest,
-  countedRefusal,
   sweepRefusal,
   sweepFloor,
   passes,
@@ -14,7 +13,7 @@ ghost use Rattle.sweeps.specs.Sweep.{
   bestOf,
   refusedSweep,
 };
-ghost use Rattle.sweeps.specs.Progress.{Sweepable, SweepSum, SumAt, SumBefore, Better, WithParameter};
+ghost use Rattle.sweeps.specs.Progress.{SweepSum, SumAt, SumBefore, Better, WithParameter};
 
 // The most that high is above low.
 const WIDEST: u64 = 4_095;
@@ -27,57 +26,6 @@ pub(crate) fn refused(number: u64) -> SweepAnswer
         floor: 0,
         p: 0,
     }
-}
-
-// Whether each size is from 1 to the capacity.
-fn sizes_fit(capacity: u64, sizes: &[u32]) -> bool
-    ensures { λ r. ⌜ r ≡ sizesWithin 1 capacity (now (sizes .entry)) ⌝ }
-{
-    let mut i = 0;
-    while i < sizes.len() {
-        let x = sizes[i] as u64;
-        if x < 1 {
-            return false;
-        }
-        if capacity < x {
-            return false;
-        }
-        i += 1;
-    }
-    true
-}
-
-// Whether each count is 1 or more.
-fn counts_fit(counts: &[u16]) -> bool
-    ensures { λ r. ⌜ r ≡ countsPositive (now (counts .entry)) ⌝ }
-{
-    let mut i = 0;
-    while i < counts.len() {
-        if counts[i] < 1 {
-            return false;
-        }
-        i += 1;
-    }
-    true
-}
-
-// Refusals 6, 17 and 22 of a list and its counts, in this order.
-fn refuse_counted(capacity: u64, sizes: &[u32], counts: &[u16]) -> u64
-    ensures { λ r. ⌜ r ≡ countedRefusal capacity (now (sizes .entry)) (now (counts .entry)) ⌝ }
-{
-    if fields::MOST_SIZES < sizes.len() {
-        return 6;
-    }
-    if counts.len() != sizes.len() {
-        return 6;
-    }
-    if !sizes_fit(capacity, sizes) {
-        return 17;
-    }
-    if !counts_fit(counts) {
-        return 22;
-    }
-    0
 }
 
 // Refusals 1, 2, those of the list, and 19, in this order.
@@ -100,7 +48,7 @@ pub(crate) fn refuse_sweep(
     if 5 < family {
         return 2;
     }
-    let number = refuse_counted(capacity, sizes, counts);
+    let number = lists::refuse_counted(capacity, sizes, counts);
     if number != 0 {
         return number;
     }
@@ -131,7 +79,7 @@ struct Swept {
 
 // The sum of p, which passes: in family 1 carried on from that of p - 1, in the others made anew.
 fn sum_at(capacity: u64, family: u8, p: u64, before: u64, sizes: &[u32], counts: &[u16]) -> u64
-    requires { ⌜ Sweepable capacity (now sizes) (now counts) × (passes capacity family p ≡ true) × (1 ≤ p)
+    requires { ⌜ CountedList capacity (now sizes) (now counts) × (passes capacity family p ≡ true) × (1 ≤ p)
         × SumBefore capacity family (now sizes) (now counts) p before ⌝ }
     ensures { λ r. ⌜ SweepSum capacity family (now (sizes .entry)) (now (counts .entry)) p r ⌝ }
 {
@@ -157,7 +105,7 @@ fn better(best: SweepAnswer, floor: u64, p: u64) -> SweepAnswer
 
 // The best of p alone: 20 where it does not pass.
 fn first_parameter(capacity: u64, family: u8, sizes: &[u32], counts: &[u16], p: u64) -> Swept
-    requires { ⌜ Sweepable capacity (now sizes) (now counts) ⌝ }
+    requires { ⌜ CountedList capacity (now sizes) (now counts) ⌝ }
     ensures { λ r. ⌜ WithParameter (refusedSweep 20) capacity family (now (sizes .entry)) (now (counts .entry)) p
         (r .best) × SumAt capacity family (now (sizes .entry)) (now (counts .entry)) p (r .sum) ⌝ }
 {
@@ -185,7 +133,7 @@ fn with_parameter(
     counts: &[u16],
     p: u64,
 ) -> Swept
-    requires { ⌜ Sweepable capacity (now sizes) (now counts) × (1 ≤ p)
+    requires { ⌜ CountedList capacity (now sizes) (now counts) × (1 ≤ p)
         × SumBefore capacity family (now sizes) (now counts) p (swept .sum) ⌝ }
     ensures { λ r. ⌜ WithParameter (swept .best) capacity family (now (sizes .entry)) (now (counts .entry)) p (r .best)
         × SumAt capacity family (now (sizes .entry)) (now (counts .entry)) p (r .sum) ⌝ }
@@ -212,7 +160,7 @@ pub(crate) fn sweep_range(
     low: u64,
     high: u64,
 ) -> SweepAnswer
-    requires { ⌜ Sweepable capacity (now sizes) (now counts) × (low ≤ high) × (high - low ≤ widest) ⌝ }
+    requires { ⌜ CountedList capacity (now sizes) (now counts) × (low ≤ high) × (high - low ≤ widest) ⌝ }
     ensures { λ r. ⌜ r ≡ bestOf (sweepFloor capacity family (now (sizes .entry)) (now (counts .entry)))
         (passing capacity family low (suc (high - low))) ⌝ }
 {

@@ -23,7 +23,7 @@ returns c =
 sweep-range-requires : tie.Need-sweep-range-requires
 sweep-range-requires c κs =
     let fine = sweep-fine _ _ _ _ _ _ (accepted c) in
-    (fine .sweepable, fine .ascending, fine .narrow)
+    (fine .list, fine .ascending, fine .narrow)
 
 returns-2 : tie.Need-returns-2
 returns-2 c = sweep-promised _ _ _ _ _ _ _ (c .sweep-range .ensures ∙ sym (sweep-accepted _ _ _ _ _ _ (accepted (c .before))))

@@ -5,7 +5,8 @@ use borrow.Author.Needs.{needs}
 use borrow.Author.Tests.{not-true, not-false, le-leb, lt-leb, lt-ltb, le-ltb, ne-eqb}
 use lib.Dec.{leb}
 use Rattle.functions.specs.Words.{capacityFits}
-use Rattle.sweeps.specs.Sweep.{widest, countedRefusal, rangeRefusal, sweepRefusal}
+use Rattle.lists.specs.Counted.{countedRefusal}
+use Rattle.sweeps.specs.Sweep.{widest, rangeRefusal, sweepRefusal}
 use Rattle.sweeps.proofs.sweep.refuse_sweep.Statement.{statement}
 use Rattle.sweeps.proofs.sweep.refuse_sweep.Tie as tie
 

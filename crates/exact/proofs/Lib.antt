@@ -1,0 +1,5 @@
+pub mod Renaming
+pub mod Searching
+pub mod Expanding
+pub mod Least
+pub mod Answering
