@@ -203,6 +203,21 @@ class Promises(unittest.TestCase):
             first = path.read_text(encoding="utf-8").splitlines()[0]
             self.assertRegex(first, r"^# .+: .+", path.name)
 
+    def test_places(self):
+        """What an edit replaces stands in its file once, so that a moved line is told before the proofs."""
+        for path in ROOT.glob("crates/*/must-fail/*.edit"):
+            texts, name = {}, None
+            for line in path.read_text(encoding="utf-8").splitlines():
+                word, _, rest = line.partition(": ")
+                if word == "file":
+                    name = rest
+                    texts.setdefault(name, (path.parents[1] / name).read_text(encoding="utf-8"))
+                elif word == "old":
+                    old = rest
+                    self.assertEqual(texts[name].count(old), 1, (path.name, old))
+                elif word == "new":
+                    texts[name] = texts[name].replace(old, rest)
+
     def test_sections(self):
         headings = set(re.findall(r"^#+ (\d(?:\.\d)?)", REFERENCE, re.M))
         led_from = set()
