@@ -1,11 +1,10 @@
 -- What the refusals leave, and the answer of the operation.
-use mathlib.Core.Path.{_≡_, refl, ap, sym, _∙_}
-use mathlib.Core.Bool.{not}
+use mathlib.Core.Path.{_≡_, refl, ap}
 use mathlib.Core.List.{List}
 use Prim.Native.Nat.{ℕ, _≤_}
 use native.Mathlib.Omega.{arith}
 use borrow.Author.Tests.{ltb-false}
-use lib.Dec.{ltb, eqb}
+use lib.Dec.{ltb}
 use lib.ListN.{length, take}
 use Rattle.functions.specs.Words.{limit, capacityFits, total}
 use Rattle.functions.proofs.Cases.{not-refused, then-zero}
@@ -16,8 +15,7 @@ use Rattle.lists.proofs.Passed.{counted}
 use Rattle.jobs.specs.Packing.{copies}
 use Rattle.jobs.proofs.Promise.{chain-is-safe}
 use Rattle.exact.specs.Exact.{mostCopies, exactRefusal, FewestWritten, refusedExact, ExactAnswered}
-use Rattle.exact.specs.Expand.{Expanded, Measurable, Searchable}
-use Rattle.exact.specs.declared.ExactAnswer.{ExactAnswer}
+use Rattle.exact.specs.Expand.{Searchable}
 use Rattle.exact.proofs.Expanding.{copies-count, copies-within}
 
 -- what the refusals leave

@@ -1,14 +1,14 @@
 -- What a search says of all packings: a packing found fits and uses no more bins than it is said to, and where none is found every packing that fits uses more.
 use mathlib.Core.Path.{_≡_, refl, ap, sym, _∙_}
-use mathlib.Core.Bool.{Bool, true, false, cond, _||_, or-true, false≢true}
+use mathlib.Core.Bool.{Bool, true, false, cond, _||_, false≢true}
 use mathlib.Core.List.{List, [], _∷_, map, map-id}
-use mathlib.Core.Logic.{_⊎_, inl, inr, ⊎-elim}
+use mathlib.Core.Logic.{_⊎_, ⊎-elim}
 use Prim.Native.Nat.{ℕ, zero, suc, _+_, _≤_, _<_, max, zero-le}
 use native.Mathlib.Nat.{le-refl, le-trans}
 use native.Mathlib.Omega.{arith}
 use borrow.Author.Tests.{eqb-true, eq-eqb, ne-eqb}
 use lib.Dec.{eqb}
-use lib.ListN.{length, getD, take, drop, replicate, getD-replicate, length-replicate, List·getD-eq-default}
+use lib.ListN.{length, getD, take, replicate, getD-replicate, List·getD-eq-default}
 use Rattle.functions.specs.Words.{limit, total, weighted, EachWithin}
 use Rattle.functions.specs.Families.{_up_}
 use Rattle.functions.proofs.Cases.{lt-or-ge}
@@ -20,7 +20,7 @@ use Rattle.exact.specs.Exact.{FewestWritten}
 use Rattle.exact.specs.Expand.{Measurable}
 use Rattle.exact.specs.Search.{Grows, InRooms, NoneBelow, Searched}
 use Rattle.exact.specs.Renumber.{renumbered}
-use Rattle.exact.proofs.Renaming.{covers-uses, renumbered-fits, renumbered-grows}
+use Rattle.exact.proofs.Renaming.{unused, no-member, covers-uses, renumbered-fits, renumbered-grows}
 
 -- the bins from k on, n of them: each size alone in one
 from : ℕ → ℕ → List ℕ
@@ -80,13 +80,10 @@ grows-below most used (b ∷ bins) g zero l = g .1
 grows-below most used (b ∷ bins) g (suc i) l = grows-below most (max used (suc b)) bins (g .2) i (omega arith)
 
 grows-load : (most used b : ℕ) (xs bins : List ℕ) → Grows most used bins → most ≤ b → load b xs bins ≡ 0
-unfolding Grows load
-grows-load most used b [] bins g l = refl
-grows-load most used b (x ∷ xs) [] g l = refl
-grows-load most used b (x ∷ xs) (a ∷ bins) g l = rw (ne-eqb a b (omega (arith, g .1))) (omega (arith, grows-load most (max used (suc a)) b xs bins (g .2) l))
+grows-load most used b xs bins g l = unused b xs bins (no-member b bins (λ e. omega (arith, grows-member most used b bins g e)))
 
 -- ten rooms of the capacity
-abbrev pub rooms : ℕ → List ℕ
+abbrev rooms : ℕ → List ℕ
 rooms c = replicate 10 c
 
 module _ (c : ℕ) (sizes : List ℕ) where
@@ -125,7 +122,7 @@ module _ (c : ℕ) (sizes : List ℕ) where
       none (length sizes) (from 0 (length sizes)) zero-le (omega arith) alone-grows (fit-in-rooms (length sizes) 0 (from 0 (length sizes)) few alone-grows (alone within))
 
   -- the total over the capacity, rounded up, is the floor of no step at all
-  pub total-safe : 1 ≤ c → c ≤ limit → (other : List ℕ) → Fits c sizes other → (total sizes up c) ≤ binsUsed other
+  total-safe : 1 ≤ c → c ≤ limit → (other : List ℕ) → Fits c sizes other → (total sizes up c) ≤ binsUsed other
   unfolding chainFloor chainImage chainScale ChainAccepted
   total-safe l m other h =
       let ones : List ℕ = replicate (length sizes) 1 in

@@ -3,8 +3,8 @@
 use mathlib.Core.Path.{_≡_, refl, ap, sym, _∙_}
 use mathlib.Core.Bool.{Bool, true, false, cond, _||_, or-true, or-false, or-assoc, false≢true}
 use mathlib.Core.List.{List, [], _∷_, _++_, map, map-id}
-use mathlib.Core.Logic.{_⊎_, inl, inr, ⊎-elim}
-use Prim.Native.Nat.{ℕ, zero, suc, _+_, _*_, _≤_, _<_, max}
+use mathlib.Core.Logic.{_⊎_, ⊎-elim}
+use Prim.Native.Nat.{ℕ, suc, _+_, _≤_, _<_, max}
 use native.Mathlib.Nat.{le-trans}
 use native.Mathlib.Omega.{arith}
 use borrow.Author.Tests.{eqb-true, eq-eqb, ne-eqb}
@@ -24,7 +24,7 @@ unfolding usedFrom placeOf renumbered member
 renumber-rows = record { used-once = refl; used-before = refl; place-there = refl; place-nowhere = refl; by-first-use = refl }
 
 -- a bin that is not used has no load
-unused : (b : ℕ) (xs bins : List ℕ) → member b bins ≡ false → load b xs bins ≡ 0
+pub unused : (b : ℕ) (xs bins : List ℕ) → member b bins ≡ false → load b xs bins ≡ 0
 unfolding load member
 unused b [] bins e = refl
 unused b (x ∷ xs) [] e = refl
@@ -33,6 +33,13 @@ unused b (x ∷ xs) (a ∷ bins) e = go (eqb a b) refl e (unused b xs bins)
     go : (test : Bool) → eqb a b ≡ test → test || member b bins ≡ false → (member b bins ≡ false → load b xs bins ≡ 0) → cond test x 0 + load b xs bins ≡ 0
     go true is h rest = absurd (false≢true (sym h))
     go false is h rest = omega (arith, rest h)
+
+pub no-member : (b : ℕ) (bins : List ℕ) → (member b bins ≡ true → ⊥) → member b bins ≡ false
+no-member b bins out = go (member b bins) refl
+  where
+    go : (test : Bool) → member b bins ≡ test → member b bins ≡ false
+    go true is = absurd (out is)
+    go false is = is
 
 distinct-of : (b : ℕ) (bins : List ℕ) → member b (distinct bins) ≡ true → member b bins ≡ true
 unfolding member distinct
@@ -50,14 +57,9 @@ one-in-each b [] = omega arith
 one-in-each b (a ∷ bins) = go (member a bins) refl (one-in-each b bins)
   where
     alone : (test : Bool) → eqb a b ≡ test → member a bins ≡ false → load b (replicate (length (distinct bins)) 1) (distinct bins) ≤ 1 → cond test 1 0 + load b (replicate (length (distinct bins)) 1) (distinct bins) ≤ 1
-    alone true is out rest = omega (arith, unused b (replicate (length (distinct bins)) 1) (distinct bins) (not-there (rw (eqb-true a b is) at out)))
-      where
-        not-there : member b bins ≡ false → member b (distinct bins) ≡ false
-        not-there out-of = test-of (member b (distinct bins)) refl
-          where
-            test-of : (t : Bool) → member b (distinct bins) ≡ t → member b (distinct bins) ≡ false
-            test-of true e = absurd (false≢true (sym out-of ∙ distinct-of b bins e))
-            test-of false e = e
+    alone true is out rest =
+        let gone : member b bins ≡ false = rw (eqb-true a b is) at out in
+        omega (arith, unused b (replicate (length (distinct bins)) 1) (distinct bins) (no-member b (distinct bins) (λ e. false≢true (sym gone ∙ distinct-of b bins e))))
     alone false is out rest = omega arith
 
     go : (test : Bool) → member a bins ≡ test → load b (replicate (length (distinct bins)) 1) (distinct bins) ≤ 1 → load b (replicate (length (cond test (distinct bins) (a ∷ distinct bins))) 1) (cond test (distinct bins) (a ∷ distinct bins)) ≤ 1

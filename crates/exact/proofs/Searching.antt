@@ -1,10 +1,10 @@
 -- A turn of the search: the first size in a bin, and the others in what rooms are left.
-use mathlib.Core.Path.{_≡_, refl, ap, subst, sym, _∙_}
-use mathlib.Core.Bool.{Bool, true, false, cond}
-use mathlib.Core.List.{List, [], _∷_, _++_, append-nil}
+use mathlib.Core.Path.{_≡_, refl, ap, sym, _∙_}
+use mathlib.Core.Bool.{Bool, true, false}
+use mathlib.Core.List.{List, [], _∷_, append-nil}
 use mathlib.Core.Logic.{_⊎_, inl, inr, ⊎-elim}
 use Prim.Native.Nat.{ℕ, suc, _+_, _-_, _≤_, _<_, max, zero-le}
-use native.Mathlib.Nat.{eq-zero-or-pos, le-refl}
+use native.Mathlib.Nat.{le-refl}
 use native.Mathlib.Omega.{arith}
 use borrow.Author.Count.{below-more}
 use borrow.Author.Tests.{eqb-true, eqb-false, eq-eqb}
@@ -14,7 +14,7 @@ use lib.ListN.{length, getD, take, drop, set, length-take, length-drop, length-s
 use lib.Seq.{take-all, set-set, set-getD, getD-set-same, getD-set-other}
 use Rattle.functions.proofs.Cases.{lt-or-ge}
 use Rattle.jobs.specs.Packing.{load}
-use Rattle.exact.specs.Search.{Grows, InRooms, Seek, Placed, Improved, NoneBelow, NoneIn, Searched, TriedIn}
+use Rattle.exact.specs.Search.{Grows, Seek, Placed, Improved, NoneBelow, NoneIn, Searched, TriedIn}
 
 -- all but the first
 abbrev pub others : List ℕ → List ℕ
@@ -67,13 +67,11 @@ module _ (rooms : List ℕ) (b : ℕ) (there : b < length rooms) (x : ℕ) (xs :
       go true is = rw (← (eqb-true b w is)) (omega (arith, h b, getD-set-same rooms b (getD rooms b 0 - x) 0 there, load-same x b xs bins))
       go false is = omega (arith, h w, getD-set-other rooms b w (getD rooms b 0 - x) 0 (λ e. eqb-false b w is (sym e)), load-other x b w xs bins is)
 
-first-in-use : (k used b : ℕ) (bins : List ℕ) → Grows k used (b ∷ bins) → b ≤ used
+-- a packing has its first size in a bin that is in use or the next, and that is not the last of r
+none-anywhere : (sizes : List ℕ) (used : ℕ) (rooms : List ℕ) (r : ℕ) → 0 < length sizes → ((b : ℕ) → b ≤ used → suc b < r → NoneIn sizes used rooms r b) → NoneBelow sizes used rooms r
 unfolding Grows
-first-in-use k used b bins g = g .0
-
-first-below : (k used b : ℕ) (bins : List ℕ) → Grows k used (b ∷ bins) → b < k
-unfolding Grows
-first-below k used b bins g = g .1
+none-anywhere sizes used rooms r some none k [] l less g h = absurd (omega (arith, h .one-each))
+none-anywhere sizes used rooms r some none k (b ∷ bins) l less g h = none b (g .0) (omega (arith, g .1)) k bins l less g h
 
 -- nothing changed
 unchanged : (sizes : List ℕ) (best used : ℕ) (rooms windows : List ℕ) → Improved sizes best used rooms windows best rooms windows
@@ -263,11 +261,8 @@ module _ (sizes : List ℕ) (least best used : ℕ) (rooms windows : List ℕ) w
 
       -- the next bin was the last one to try
       pub last-tried : 0 < length sizes → b ≡ used → Searched sizes least best used rooms windows r rooms₂ windows₂
-      last-tried some is = record { improved = both-improved; none-below = ⊎-elim (λ few. inl few) (λ none. inr (anywhere none)) none-so-far }
-        where
-          anywhere : ((a : ℕ) → a < b + 1 → NoneIn sizes used rooms r a) → NoneBelow sizes used rooms r
-          anywhere none k [] l less g h = absurd (omega (arith, h .one-each))
-          anywhere none k (a ∷ bins) l less g h = none a (omega (arith, first-in-use k used a bins g)) k bins l less g h
+      last-tried some is =
+          record { improved = both-improved; none-below = ⊎-elim (λ few. inl few) (λ none. inr (none-anywhere sizes used rooms r some (λ a l m. none a (omega arith)))) none-so-far }
 
     -- all bins in use were tried
     pub trying-all : used ≤ b → Trying sizes least best used rooms windows m rooms₁ windows₁ used
@@ -277,8 +272,5 @@ module _ (sizes : List ℕ) (least best used : ℕ) (rooms windows : List ℕ) w
 
     -- a next bin would make as many as the best so far has
     pub none-to-open : 0 < length sizes → used ≤ b → m ≤ used + 1 → Searched sizes least best used rooms windows m rooms₁ windows₁
-    none-to-open some all few = record { improved = trying .improved; none-below = ⊎-elim (λ below. inl below) (λ none. inr (anywhere none)) (trying .none-before) }
-      where
-        anywhere : ((a : ℕ) → a < b → NoneIn sizes used rooms m a) → NoneBelow sizes used rooms m
-        anywhere none k [] l less g h = absurd (omega (arith, h .one-each))
-        anywhere none k (a ∷ bins) l less g h = none a (omega (arith, first-in-use k used a bins g, first-below k used a bins g)) k bins l less g h
+    none-to-open some all few =
+        record { improved = trying .improved; none-below = ⊎-elim (λ below. inl below) (λ none. inr (none-anywhere sizes used rooms m some (λ a l n. none a (omega arith)))) (trying .none-before) }

@@ -7,7 +7,7 @@ use Prim.Native.Nat.{ℕ, zero, suc, _+_, _-_, _*_, _^_, _≤_, _<_, max, zero-l
 use native.Mathlib.Nat.{eq-zero-or-pos}
 use native.Mathlib.Numerals.{add-one}
 use native.Mathlib.Omega.{arith}
-use borrow.Author.Tests.{not-false, ltb-false, eqb-true, eq-eqb, ne-eqb}
+use borrow.Author.Tests.{ltb-false, eqb-true, eq-eqb, ne-eqb}
 use lib.Dec.{leb, ltb, eqb}
 use lib.ListN.{length}
 use Rattle.functions.specs.Words.{limit, capacityFits, mostCount, weighted, EachWithin}
@@ -23,10 +23,8 @@ use Rattle.functions.proofs.Legal.{passed, capacity-bounds}
 use Rattle.functions.proofs.Mapped.{map-append}
 use Rattle.functions.proofs.Promise.{family-promise}
 use Rattle.fields.specs.Parts.{onFamily}
-use Rattle.fields.specs.Grammar.{mostSizes}
 use Rattle.chains.specs.Chain.{stepImage, stepScale, stepRefusal, chainImage, chainScale, ChainAccepted, chainFloor}
 use Rattle.jobs.specs.Packing.{copies, Fits, binsUsed}
-use Rattle.chains.specs.Sizes.{sizesWithin, countsPositive}
 use Rattle.lists.specs.Counted.{countedRefusal, CountedList}
 use Rattle.lists.proofs.Passed.{counted, of-counted}
 use Rattle.sweeps.specs.Sweep.{widest, rangeRefusal, sweepRefusal, sweepFloor, passes, passing, largest, firstWith, refusedSweep, bestOf, sweepAnswer}
