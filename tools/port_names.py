@@ -20,6 +20,15 @@ SPAN = re.compile(r"`[^`\n]+`")
 MADE = re.compile(r"\.(?:ensures|result|requires|before|after|new|old|now|entry|exit)\b")
 
 
+def imported(text, own):
+    """The names that a file imports from outside of this repository, which stay."""
+    names = set()
+    for m in re.finditer(r"^use ([^\s{]+)\.\{([^}]*)\}", text, re.M):
+        if m.group(1).split(".")[1] not in own:
+            names |= {name.strip().split(" as ")[0] for name in m.group(2).split(",")}
+    return names
+
+
 def rows():
     everywhere, some = {}, []
     with open(os.path.join(HERE, "port_names.tsv"), encoding="utf-8") as f:
@@ -104,11 +113,15 @@ def files(top):
 def main():
     top = sys.argv[1] if len(sys.argv) > 1 else os.path.dirname(HERE)
     everywhere, some = rows()
+    own = set(os.listdir(os.path.join(top, "crates")))
     changed = 0
     for path in files(top):
         table = everywhere | {old: new for old, new, begin in some if path.startswith(begin)}
         with open(os.path.join(top, path), encoding="utf-8") as f:
             text = f.read()
+        if path.endswith(".antt"):
+            kept = imported(text, own)
+            table = {old: new for old, new in table.items() if old not in kept}
         new = turned(path, text, table)
         if new != text:
             changed += 1

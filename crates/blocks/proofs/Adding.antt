@@ -1,6 +1,6 @@
 -- Sums over blocks: the counts of a part, and the invariants of the loops.
 use mathlib.Core.Path.{◌≡◌, refl, ap, sym, ◌∙◌}
-use mathlib.Core.List.{List, [], ◌∷◌, ◌++◌, map, map_append, append_assoc}
+use mathlib.Core.List.{List, [], ◌∷◌, ◌++◌, map, map-append, append_assoc}
 use mathlib.Core.Logic.{inl, inr}
 use Prim.Native.Nat.{ℕ, zero, suc, ◌+◌, ◌*◌, ◌^◌, ◌≤◌, ◌<◌}
 use native.Mathlib.Nat.{mul-le-mul_right}
@@ -180,7 +180,7 @@ module _ (numbers counts images : List ℕ) (d : ℕ) (floors₀ : List ℕ) whe
           ∙ ap (λ (m : ℕ). divide (take k numbers) counts images ++ (block_at m n counts images ∷ [])) (sym s.at_is)
 
       more : map (sum_up d) (divide (take (suc k) numbers) counts images) ≡ written ++ (sum_up d block ∷ [])
-      more = ap (map (sum_up d)) divided ∙ map_append (sum_up d) (divide (take k numbers) counts images) (block ∷ [])
+      more = ap (map (sum_up d)) divided ∙ map-append (sum_up d) (divide (take k numbers) counts images) (block ∷ [])
 
       module _ (part floor : ℕ) (part_is : part ≡ weighted (take n (drop at counts)) (take n (drop at images))) (few : part ≤ n * (most_count * d)) (floor_is : floor ≡ (part up d)) (positive : 1 ≤ d) where
         floor_of : floor ≡ sum_up d block

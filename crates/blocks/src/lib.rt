@@ -1,4 +1,6 @@
 // Blocks of a list: whether they divide it, and the sum of each, rounded up by a scale.
+#![tactic(auto)]
+
 ghost use Rattle.std.specs.Prelude.{◌≡◌, ◌⊎◌, ℕ, ◌+◌, ◌*◌, ◌%◌, ◌≤◌, length, take, drop};
 ghost use Rattle.functions.specs.Words.{total, most_count, weighted, EachWithin};
 ghost use Rattle.fields.specs.Bytes.{halfwords};
@@ -7,7 +9,7 @@ ghost use Rattle.blocks.specs.Block.{blocks_fit};
 ghost use Rattle.blocks.specs.Sums.{Counted, counts_of, Divided, Summed};
 
 // The sum over all blocks, and the total of the blocks' sums rounded up.
-#[derive(Drop)]
+#[derive(Clone, Copy)]
 pub struct BlockSums {
     pub sum: u64,
     pub total: u64,

@@ -1,13 +1,12 @@
 -- What the refusals leave, and the answer of the operation.
-use mathlib.Core.Path.{◌≡◌, refl, ap}
+use mathlib.Core.Path.{◌≡◌, refl}
 use mathlib.Core.List.{List}
 use Prim.Native.Nat.{ℕ, ◌≤◌}
 use native.Mathlib.Omega.{arith}
 use borrow.Author.Tests.{ltb-false}
-use lib.Dec.{ltb}
 use lib.ListN.{length, take}
 use Rattle.functions.specs.Words.{limit, capacity_fits, total}
-use Rattle.functions.proofs.Cases.{not_refused, then_zero}
+use Rattle.functions.proofs.Cases.{then_zero}
 use Rattle.functions.proofs.Legal.{passed, capacity_bounds}
 use Rattle.chains.proofs.SizeTests.{sizes_most}
 use Rattle.lists.specs.Counted.{counted_refusal, CountedList}
@@ -32,15 +31,13 @@ module _ (c : ℕ) (sizes counts : List ℕ) where
   exact_fine places e =
       let one = passed (capacity_fits c) 1 _ (omega arith) e in
       let both = then_zero (counted_refusal c sizes counts) _ one.1 in
-      let twenty-four = not_refused (ltb most_copies (total counts)) 24 _ (omega arith) both.1 in
-      let seven = not_refused (ltb places most_copies) 7 0 (omega arith) twenty-four.1 in
       let capacity = capacity_bounds c one.0 in
       record {
         capacity_positive = capacity.0;
         capacity_within_limit = capacity.1;
         list = counted c sizes counts both.0;
-        few = ltb-false most_copies (total counts) twenty-four.0;
-        room = ltb-false places most_copies seven.0;
+        few = ltb-false most_copies (total counts) (grind (arith, both.1));
+        room = ltb-false places most_copies (grind (arith, both.1));
       }
 
   module _ (windows : List ℕ) where

@@ -1,4 +1,6 @@
 // The fewest windows that a short list needs, and an assignment that uses no more.
+#![tactic(auto)]
+
 mod list;
 mod search;
 
@@ -6,15 +8,14 @@ ghost use Rattle.exact.specs.Exact.{ExactAnswered};
 
 // The answer: the number that refuses the list, or 0 with the fewest windows.
 #[repr(C)]
-#[derive(Drop)]
+#[derive(Clone, Copy)]
 pub struct ExactAnswer {
     pub number: u64,
     pub fewest: u64,
 }
 
 // The exact operation, for at most 10 copies in all. Each size has its count.
-#[unsafe(no_mangle)]
-pub extern "C" fn windowfloor_exact(
+pub fn windowfloor_exact(
     capacity: u64,
     sizes: &[u32],
     counts: &[u16],

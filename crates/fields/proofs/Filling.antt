@@ -1,7 +1,7 @@
 -- The record of a job's parts, filled with one field more.
 use mathlib.Core.Path.{◌≡◌, refl, ap, sym, ◌∙◌}
 use mathlib.Core.Bool.{true, ◌&&◌, and-eq-true_iff}
-use mathlib.Core.List.{List, [], ◌∷◌, ◌++◌, map, map_append}
+use mathlib.Core.List.{List, [], ◌∷◌, ◌++◌, map, map-append}
 use mathlib.Core.Logic.{◌⊎◌, inl, inr, ⊎_elim}
 use Prim.Native.Nat.{ℕ, suc, ◌+◌, ◌-◌, ◌*◌, ◌/◌, ◌%◌, ◌≤◌, ◌<◌}
 use native.Mathlib.Nat.{eq-or-lt_of_le}
@@ -322,7 +322,7 @@ module _ (job : List ℕ) (fields : List Field) (parts : JobParts) (h : PartsOf 
     one_more =
         rw add-one
         (ap (map (step_in job)) (take-suc-set parts.steps.items parts.steps.count s inside)
-        ∙ map_append (step_in job) (take parts.steps.count parts.steps.items) (s ∷ [])
+        ∙ map-append (step_in job) (take parts.steps.count parts.steps.items) (s ∷ [])
         ∙ ap (λ (x : Step). map (step_in job) (take parts.steps.count parts.steps.items) ++ (x ∷ [])) same)
 
     last : (i : ℕ) → suc i ≡ parts.steps.count + 1 → StepWithin job (get_or steps'.items i no_step)

@@ -1,9 +1,9 @@
 -- Fields one behind the other: what the parts by tag gain from one more field, and which tags may follow.
 use mathlib.Core.Path.{◌≡◌, refl, ap, ◌∙◌}
 use mathlib.Core.Bool.{Bool, true, false, cond, not, ◌&&◌, ◌||◌, or-true, and-eq-true_iff}
-use mathlib.Core.List.{List, [], ◌∷◌, ◌++◌, map, map_append}
+use mathlib.Core.List.{List, [], ◌∷◌, ◌++◌, map, map-append}
 use mathlib.Core.Logic.{◌⊎◌, inl, inr, ⊎_elim}
-use Prim.Native.Nat.{ℕ, suc, ◌+◌, ◌≤◌, ◌<◌}
+use Prim.Native.Nat.{ℕ, suc, ◌≤◌, ◌<◌}
 use native.Mathlib.Omega.{arith}
 use borrow.Author.Tests.{eqb-true, ltb-true, eq-eqb, ne_eqb, not-false}
 use lib.Dec.{ltb, eqb}
@@ -67,7 +67,7 @@ module _ (f : Field) where
 
   pub step_more : (fields : List Field) → is_step f.tag ≡ true → job_steps (fields ++ (f ∷ [])) ≡ job_steps fields ++ (step_of f ∷ [])
   unfolding job_steps
-  step_more fields is = ap (map step_of) (chosen_more is_step fields is) ∙ map_append step_of (chosen is_step fields) (f ∷ [])
+  step_more fields is = ap (map step_of) (chosen_more is_step fields is) ∙ map-append step_of (chosen is_step fields) (f ∷ [])
 
   pub steps_kept : (fields : List Field) → is_step f.tag ≡ false → job_steps (fields ++ (f ∷ [])) ≡ job_steps fields
   unfolding job_steps
@@ -75,7 +75,7 @@ module _ (f : Field) where
 
   pub row_more : (fields : List Field) → is_row f.tag ≡ true → job_rows (fields ++ (f ∷ [])) ≡ job_rows fields ++ (row_of f ∷ [])
   unfolding job_rows
-  row_more fields is = ap (map row_of) (chosen_more is_row fields is) ∙ map_append row_of (chosen is_row fields) (f ∷ [])
+  row_more fields is = ap (map row_of) (chosen_more is_row fields is) ∙ map-append row_of (chosen is_row fields) (f ∷ [])
 
   pub rows_kept : (fields : List Field) → is_row f.tag ≡ false → job_rows (fields ++ (f ∷ [])) ≡ job_rows fields
   unfolding job_rows

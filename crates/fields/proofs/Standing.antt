@@ -2,9 +2,9 @@
 use mathlib.Core.Path.{◌≡◌, refl, ap, ◌∙◌}
 use mathlib.Core.Bool.{Bool, true, false}
 use mathlib.Core.List.{List, [], ◌∷◌, ◌++◌}
-use Prim.Native.Nat.{ℕ, ◌+◌, ◌-◌, ◌≤◌}
+use Prim.Native.Nat.{ℕ, ◌+◌, ◌≤◌}
 use native.Mathlib.Omega.{arith}
-use lib.ListN.{length, take, drop, length-drop}
+use lib.ListN.{length, drop, length-drop}
 use Rattle.fields.specs.Bytes.{header_bytes, field_tag, field_length, field_value}
 use Rattle.fields.specs.Parts.{Field, is_row, chosen, Row, row_of, job_rows, coefficient_count}
 use Rattle.fields.specs.Grammar.{length_right}

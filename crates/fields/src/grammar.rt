@@ -46,6 +46,7 @@ fn row_follows(last: u8, tag: u8) -> bool
 }
 
 // The counts of a floor job, right behind its sizes.
+#[tactic(auto, unfolding(crate::specs::Grammar::counts_follow))]
 fn counts_follow(kind: u8, last: u8, tag: u8) -> bool
     ensures { result ≡ counts_follow kind last tag }
 {
@@ -63,6 +64,7 @@ fn is_list(tag: u8) -> bool
 }
 
 // The blocks of a floor job, right behind its sizes or their counts.
+#[tactic(auto, unfolding(crate::specs::Grammar::blocks_follow))]
 fn blocks_follow(kind: u8, last: u8, tag: u8) -> bool
     ensures { result ≡ blocks_follow kind last tag }
 {
@@ -97,6 +99,7 @@ fn may_follow(kind: u8, last: u8, steps: usize, tag: u8) -> bool
 }
 
 // Whether a job may end behind the last tag.
+#[tactic(auto, unfolding(crate::specs::Grammar::may_end))]
 pub(crate) fn may_end(kind: u8, last: u8) -> bool
     ensures { result ≡ may_end kind last }
 {

@@ -1,4 +1,6 @@
 // The bytes of a job: its fields read one after the other, refusals 13 to 15, and its parts.
+#![tactic(auto)]
+
 mod grammar;
 mod parts;
 mod reader;
@@ -28,7 +30,7 @@ pub const ROWS_KIND: u8 = 3;
 const HEADER: usize = 3;
 
 // The header of a field, or one that is not within the rest of the job.
-#[derive(Drop)]
+#[derive(Clone, Copy)]
 pub struct Header {
     pub within: bool,
     pub tag: u8,
@@ -37,14 +39,14 @@ pub struct Header {
 
 // A span of the job: where it starts, and how many numbers it has. Counts and blocks have two bytes
 // each, all others four.
-#[derive(Drop)]
+#[derive(Clone, Copy)]
 pub struct Span {
     pub at: usize,
     pub n: usize,
 }
 
 // A step of a job, by its tag: family, p and q of a family step, or where the entries of a table are.
-#[derive(Drop)]
+#[derive(Clone, Copy)]
 pub struct JobStep {
     pub p: u64,
     pub q: u64,
@@ -54,7 +56,7 @@ pub struct JobStep {
 }
 
 // The steps of one job: eight places and their number.
-#[derive(Drop)]
+#[derive(Clone, Copy)]
 pub struct JobSteps {
     pub items: [JobStep; MOST_STEPS],
     pub count: usize,
@@ -62,7 +64,7 @@ pub struct JobSteps {
 
 // The parts of a job: of its rows how many there are, and how many coefficients they have in all. Where
 // it has no tag 7, there are no counts; whether it has a tag 8 is told, since that may give no block.
-#[derive(Drop)]
+#[derive(Clone, Copy)]
 pub struct JobParts {
     pub capacity: u64,
     pub sizes: Span,
@@ -76,7 +78,7 @@ pub struct JobParts {
 }
 
 // A row of a job: its right side, which is its capacity, where its coefficients are, and the place behind it.
-#[derive(Drop)]
+#[derive(Clone, Copy)]
 pub struct RowPlace {
     pub capacity: u64,
     pub coefficients: Span,
@@ -84,7 +86,7 @@ pub struct RowPlace {
 }
 
 // A job that was read, or the number that refuses a field.
-#[derive(Drop)]
+#[derive(Clone, Copy)]
 pub struct JobRead {
     pub number: u64,
     pub parts: JobParts,

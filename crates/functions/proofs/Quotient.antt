@@ -1,6 +1,6 @@
 -- Quotients and remainders of sums, the survey's Lemma 1 in whole numbers, and the quotient rounded up.
 use mathlib.Core.Path.{◌≡◌, ap, sym, ◌∙◌}
-use mathlib.Core.Logic.{◌⊎◌, ⊎_elim}
+use mathlib.Core.Logic.{⊎_elim}
 use Prim.Native.Nat.{ℕ, ◌+◌, ◌-◌, ◌*◌, ◌/◌, ◌%◌, ◌≤◌, ◌<◌}
 use native.Mathlib.Nat.{div-add-mod', div-zero, div-eq_of_lt, mod-lt, mul-le-mul_left, mul-le-mul_right, zero-div, zero-mod, eq-zero-or-pos}
 use native.Mathlib.Omega.{arith}

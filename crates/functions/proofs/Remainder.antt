@@ -1,6 +1,6 @@
 -- Families 5 and 6, or what family 6 mirrors, are superadditive: Lemma 1 at what they add for a remainder.
 use mathlib.Core.Path.{◌≡◌, ap, ◌∙◌}
-use mathlib.Core.Logic.{◌⊎◌, ⊎_elim}
+use mathlib.Core.Logic.{⊎_elim}
 use Prim.Native.Nat.{ℕ, ◌+◌, ◌-◌, ◌*◌, ◌/◌, ◌%◌, ◌≤◌, ◌<◌}
 use native.Mathlib.Nat.{mul-le-mul_right, mod-lt, div-le_self, le_refl, eq-zero-or-pos}
 use native.Mathlib.Omega.{arith}

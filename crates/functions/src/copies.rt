@@ -4,7 +4,7 @@ ghost use Rattle.std.specs.Prelude.{◌≡◌, ◌*◌, ◌^◌, ◌<◌, length
 ghost use Rattle.functions.specs.Words.{most_count};
 ghost use Rattle.functions.specs.Summed.{same_as, CopiesOf};
 
-#[derive(Drop)]
+#[derive(Clone, Copy)]
 pub(crate) struct Copies {
     pub(crate) first: u64,
     pub(crate) second: u64,

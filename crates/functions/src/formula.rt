@@ -41,6 +41,7 @@ fn mirrored(top: u64, part: u64, x: u64, rest: u64) -> u64
 }
 
 // Family 1. No size passes both tests.
+#[tactic(auto, unfolding(crate::specs::Families::threshold))]
 pub(crate) fn threshold(capacity: u64, p: u64, x: u64) -> u64
     requires { 2 * p ≤ capacity + 1 }
     ensures { result ≡ threshold capacity p x }

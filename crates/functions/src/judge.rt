@@ -46,6 +46,7 @@ fn greatest_p(capacity: u64, family: u8) -> u64
     if family == 2 { LIMIT } else { capacity }
 }
 
+#[tactic(auto, using(crate::proofs::Legal::legal_within), unfolding(crate::specs::Families::legal))]
 pub(crate) fn is_legal(capacity: u64, family: u8, p: u64, q: u64) -> bool
     requires { (1 ≤ capacity) × (capacity ≤ limit) × (1 ≤ family) × (family ≤ 7) }
     ensures { result ≡ legal capacity family p q }

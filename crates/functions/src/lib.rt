@@ -1,5 +1,7 @@
 // The seven families of dual-feasible functions: the judgement of a family step, the image of a
 // size, and under an accepted step a list of sizes mapped, or its images summed.
+#![tactic(auto)]
+
 mod copies;
 mod formula;
 mod judge;
@@ -16,7 +18,7 @@ pub const LIMIT: u64 = 4_000_000_000;
 
 // The answer to an image: the number that refuses it, or 0 with the image and the scale.
 #[repr(C)]
-#[derive(Drop)]
+#[derive(Clone, Copy)]
 pub struct ImageAnswer {
     pub number: u64,
     pub image: u64,
@@ -24,7 +26,7 @@ pub struct ImageAnswer {
 }
 
 // The judgement of a family step: the number that refuses it, or 0 with the scale.
-#[derive(Drop)]
+#[derive(Clone, Copy)]
 pub struct FamilyAnswer {
     pub number: u64,
     pub scale: u64,
@@ -110,14 +112,7 @@ fn answer_for(capacity: u64, family: u8, p: u64, q: u64, x: u64) -> ImageAnswer
 }
 
 // The family is chosen once: in each arm it is a constant, and what depends on it is folded.
-#[unsafe(no_mangle)]
-pub extern "C" fn windowfloor_image(
-    capacity: u64,
-    family: u8,
-    p: u64,
-    q: u64,
-    x: u64,
-) -> ImageAnswer
+pub fn windowfloor_image(capacity: u64, family: u8, p: u64, q: u64, x: u64) -> ImageAnswer
     ensures { result ≡ image_answer capacity family p q x }
 {
     match family {

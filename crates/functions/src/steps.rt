@@ -11,7 +11,7 @@ ghost use Rattle.functions.specs.Summed.{Summed, Summable, image_under};
 use crate::{formula, judge};
 
 // A step with what no size changes: the remainder is capacity % p, and the top that of judge::top.
-#[derive(Drop)]
+#[derive(Clone, Copy)]
 pub(crate) struct PreparedStep {
     pub(crate) capacity: u64,
     pub(crate) p: u64,

@@ -16,7 +16,7 @@ use Rattle.tables.specs.Check.{most_entries}
 use Rattle.fields.specs.Bytes.{halfwords}
 use Rattle.fields.specs.Parts.{Field, value_of, Step, Row, job_kind, job_capacity, job_sizes, job_counts, block_numbers, job_steps, job_rows, coefficient_count}
 use Rattle.fields.specs.Grammar.{most_bytes, most_sizes, most_rows, most_blocks, floor_kind, rows_kind}
-use Rattle.fields.specs.Reading.{refused, fields_of}
+use Rattle.fields.specs.Reading.{fields_of}
 use Rattle.fields.specs.Record.{JobReading, no_row}
 use Rattle.fields.specs.declared.JobRead.{JobRead}
 use Rattle.chains.specs.Chain.{chain_image, chain_scale}

@@ -1,6 +1,6 @@
 -- Rows written one behind the other: where each one's images and scale stand, and the invariant of the loop that writes them.
 use mathlib.Core.Path.{◌≡◌, refl, ap, sym, ◌∙◌}
-use mathlib.Core.List.{List, [], ◌∷◌, ◌++◌, map, append_assoc, append-nil, map_append}
+use mathlib.Core.List.{List, [], ◌∷◌, ◌++◌, map, append_assoc, append-nil, map-append}
 use Prim.Native.Nat.{ℕ, zero, suc, ◌+◌, ◌-◌, ◌^◌, ◌≤◌, ◌<◌}
 use native.Mathlib.Numerals.{add-one}
 use native.Mathlib.Omega.{arith}
@@ -146,7 +146,7 @@ module _ (job : List ℕ) (fields : List Field) (S : List Step) (images₀ scale
           scaled =
               ap (λ (s : List ℕ). set s k e) (w.scales_are ∙ ap (λ (d : List ℕ). map (row_scale S) (take k rows) ++ d) (drop-cons scales₀ k 0 (omega arith)))
               ∙ set_at (map (row_scale S) (take k rows)) (get_or scales₀ k 0) (drop (suc k) scales₀) e k (length-map (take k rows) (row_scale S) ∙ length-take-le k rows (omega arith))
-              ∙ rw (e-is, one_more, map_append (row_scale S) (take k rows) (row_in job r ∷ [])) (sym (append_assoc (map (row_scale S) (take k rows)) (row_scale S (row_in job r) ∷ []) (drop (suc k) scales₀)))
+              ∙ rw (e-is, one_more, map-append (row_scale S) (take k rows) (row_in job r ∷ [])) (sym (append_assoc (map (row_scale S) (take k rows)) (row_scale S (row_in job r) ∷ []) (drop (suc k) scales₀)))
 
       -- the same of the part from the place to the end, put back into the buffer
       pub written_put : (tail : List ℕ) (e : ℕ) → length rows ≤ length scales₀ → coefficient_count rows ≤ length images₀ → tail ≡ row_images S (row_in job r) ++ drop r.coefficients.n (take (length images - place) (drop place images)) → e ≡ row_scale S (row_in job r) → RowsWritten job fields S images₀ scales₀ (k + 1) r.next (place + r.coefficients.n) (take place images ++ (tail ++ drop (length images - place) (drop place images))) (set scales k e)

@@ -22,6 +22,7 @@ ghost use Rattle.jobs.specs.Kinds.{is_kind, least_of};
 use crate::{JobAnswer, LIST_PLACES, rows};
 
 // Refusals 12 and 7.
+#[tactic(auto, unfolding(crate::specs::Job::buffer_refusal))]
 pub(crate) fn refuse_buffers(
     bytes: usize,
     images: usize,

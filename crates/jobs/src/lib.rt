@@ -1,5 +1,7 @@
 // The job operation: a chain of steps over a list of sizes, a row or many rows, and its lower bound on
 // bins or its cuts.
+#![tactic(auto)]
+
 mod answer;
 mod rows;
 
@@ -25,7 +27,7 @@ pub const LIST_PLACES: usize = tables::MOST_ENTRIES - 1;
 // lower bound on bins, the sum of images and the scale; the place of a refused step, the length of the
 // list, and the place of a refused row; the total of the blocks' lower bounds.
 #[repr(C)]
-#[derive(Drop)]
+#[derive(Clone, Copy)]
 pub struct JobAnswer {
     pub number: u64,
     pub n: u64,
@@ -41,8 +43,7 @@ pub struct JobAnswer {
 // The job operation: a job is judged whole before any image is written. `images` has at least
 // MOST_SIZES places, `working` as many as the longest table, `list` one less, and `scales` and
 // `blocks` a place for each row and for each block.
-#[unsafe(no_mangle)]
-pub extern "C" fn windowfloor_job(
+pub fn windowfloor_job(
     job: &[u8],
     images: &mut [u32],
     working: &mut [u64],

@@ -12,6 +12,7 @@ ghost use Rattle.jobs.specs.Kinds.{rows_fit};
 use chains::Verdict;
 
 // Refusal 21 is that this is false.
+#[tactic(auto, unfolding(crate::specs::Kinds::rows_fit))]
 fn rows_fit(rows: usize, coefficients: usize) -> bool
     ensures { result ≡ rows_fit rows coefficients }
 {

@@ -1,4 +1,6 @@
 // A list of sizes with a count for each, lent by a caller outside of a job.
+#![tactic(auto)]
+
 ghost use Rattle.std.specs.Prelude.{◌≡◌};
 ghost use Rattle.chains.specs.Sizes.{sizes_within, counts_positive};
 ghost use Rattle.lists.specs.Counted.{counted_refusal};

@@ -1,4 +1,6 @@
 // The hand-over program's text for a job.
+#![tactic(auto)]
+
 mod lines;
 mod put;
 

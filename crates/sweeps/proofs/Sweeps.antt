@@ -1,5 +1,5 @@
 -- The sweep: the best parameter so far, turn by turn, and the safety of the largest floor.
-use mathlib.Core.Path.{◌≡◌, refl, ap, sym, ◌∙◌}
+use mathlib.Core.Path.{◌≡◌, subst, refl, ap, sym, ◌∙◌}
 use mathlib.Core.Bool.{Bool, true, false, cond, not, ◌&&◌, ◌||◌, false≢true}
 use mathlib.Core.List.{List, [], ◌∷◌, ◌++◌, map, append-nil}
 use mathlib.Core.Logic.{◌⊎◌, inl, inr, ⊎_elim}
@@ -59,7 +59,7 @@ module _ (f : ℕ → ℕ) where
       go : Reaches (largest (map f (q ∷ ps))) (q ∷ ps) → (f p < largest (map f (q ∷ ps))) ⊎ (largest (map f (q ∷ ps)) ≤ f p) → Reaches (max (f p) (largest (map f (q ∷ ps)))) (p ∷ q ∷ ps)
       go later (inl less) =
           let same : max (f p) (largest (map f (q ∷ ps))) ≡ largest (map f (q ∷ ps)) = omega arith in
-          rw same (inr later)
+          subst (λ (v : ℕ). Reaches v (p ∷ q ∷ ps)) (sym same) (inr later)
       go later (inr more) = inl (omega arith)
 
   -- what the list has is found before what stands behind it
@@ -79,6 +79,13 @@ module _ (f : ℕ → ℕ) where
   first_new v p [] l e = rw (eq-eqb (f p) v e)
   first_new v p (q ∷ ps) l e = rw (ne_eqb (f q) v (omega arith)) (first_new v p ps (omega arith) e)
 
+  -- the best of a list by its largest floor and the first p with that
+  best_is : (ps : List ℕ) (q v w : ℕ) → largest (map f (q ∷ ps)) ≡ v → first_with f v (q ∷ ps) ≡ w → record { number = 0; floor = v; p = w } ≡ best_of f (q ∷ ps)
+  unfolding best_of
+  best_is ps q v w floor first =
+      let at : ℕ → ℕ → SweepAnswer = λ a b. record { number = 0; floor = a; p = b } in
+      sym (ap (λ (a : ℕ). at a (first_with f a (q ∷ ps))) floor ∙ ap (at v) first)
+
   module _ (best : SweepAnswer) (p : ℕ) where
     -- p is no better than the best so far
     pub best_kept : (ps : List ℕ) → best ≡ best_of f ps → best.number ≡ 0 → f p ≤ best.floor → best ≡ best_of f (ps ++ (p ∷ []))
@@ -87,7 +94,7 @@ module _ (f : ℕ → ℕ) where
     best_kept (q ∷ ps) is found l =
         let floor : best.floor ≡ largest (map f (q ∷ ps)) = ap (λ (a : SweepAnswer). a.floor) is in
         let same : largest (map f ((q ∷ ps) ++ (p ∷ []))) ≡ largest (map f (q ∷ ps)) = omega (arith, largest_more (q ∷ ps) (p ∷ []), largest_one p) in
-        is ∙ sym (rw (same, first_kept (largest (map f (q ∷ ps))) (q ∷ ps) (p ∷ []) (largest_reached q ps)))
+        is ∙ best_is _ q _ _ same (first_kept (largest (map f (q ∷ ps))) (q ∷ ps) (p ∷ []) (largest_reached q ps))
 
     -- p is better, or the first
     pub best_replaced : (ps : List ℕ) → best ≡ best_of f ps → (best.number ≡ 0 → best.floor < f p) → record { number = 0; floor = f p; p = p } ≡ best_of f (ps ++ (p ∷ []))
@@ -97,7 +104,7 @@ module _ (f : ℕ → ℕ) where
         let floor : best.floor ≡ largest (map f (q ∷ ps)) = ap (λ (a : SweepAnswer). a.floor) is in
         let less : best.floor < f p = better (ap (λ (a : SweepAnswer). a.number) is) in
         let same : largest (map f ((q ∷ ps) ++ (p ∷ []))) ≡ f p = omega (arith, largest_more (q ∷ ps) (p ∷ []), largest_one p) in
-        rw (same, first_new (f p) p (q ∷ ps) (omega arith) refl)
+        best_is _ q _ _ same (first_new (f p) p (q ∷ ps) (omega arith) refl)
 
 module _ (c : ℕ) (sizes counts : List ℕ) (fine : CountedList c sizes counts) where
   pub sizes_each : EachWithin c sizes

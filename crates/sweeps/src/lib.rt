@@ -1,4 +1,6 @@
 // The sweep operation: the largest one-step lower bound on bins over a range of p.
+#![tactic(auto)]
+
 mod sweep;
 
 ghost use Rattle.std.specs.Prelude.{◌≡◌, List, ℕ, ◌≤◌};
@@ -8,7 +10,7 @@ ghost use Rattle.sweeps.specs.Sweep.{sweep_answer};
 // The answer to a sweep: the number that refuses it, or 0 with the largest lower bound on bins and
 // the least p that gives it.
 #[repr(C)]
-#[derive(Drop)]
+#[derive(Clone, Copy)]
 pub struct SweepAnswer {
     pub number: u64,
     pub floor: u64,
@@ -16,8 +18,7 @@ pub struct SweepAnswer {
 }
 
 // The sweep operation: each p from low to high, with q 0. Each size has its count.
-#[unsafe(no_mangle)]
-pub extern "C" fn windowfloor_sweep(
+pub fn windowfloor_sweep(
     capacity: u64,
     family: u8,
     sizes: &[u32],

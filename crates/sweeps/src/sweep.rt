@@ -71,7 +71,7 @@ fn found(floor: u64, p: u64) -> SweepAnswer
 }
 
 // The best of the parameters so far, and the sum of the last one where that passed.
-#[derive(Drop)]
+#[derive(Clone, Copy)]
 struct Swept {
     best: SweepAnswer,
     sum: u64,

@@ -18,6 +18,7 @@ fn within_limit(table: &[u32]) -> bool
 }
 
 // Refusals 6 and 7.
+#[tactic(auto, unfolding(crate::specs::Check::length_refusal))]
 pub(crate) fn refuse_lengths(entries: usize, working: usize, list: usize) -> u64
     ensures { result ≡ length_refusal entries working list }
 {

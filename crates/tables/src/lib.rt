@@ -1,4 +1,6 @@
 // The table check: whether a table of images is dual-feasible, and a counterexample if not.
+#![tactic(auto)]
+
 mod fill;
 mod form;
 mod refute;
@@ -12,18 +14,13 @@ pub const MOST_ENTRIES: usize = 2_048;
 
 // The answer to a table check: the number that refuses it, or 0; at 11 the counterexample's length.
 #[repr(C)]
-#[derive(Drop)]
+#[derive(Clone, Copy)]
 pub struct TableAnswer {
     pub number: u64,
     pub length: u64,
 }
 
-#[unsafe(no_mangle)]
-pub extern "C" fn windowfloor_table_check(
-    table: &[u32],
-    working: &mut [u64],
-    list: &mut [u32],
-) -> TableAnswer
+pub fn windowfloor_table_check(table: &[u32], working: &mut [u64], list: &mut [u32]) -> TableAnswer
     ensures answer { result ≡ table_answer table.now (length working.old) (length list.old) }
     ensures working { working.new ≡ working_after table.now working.old list.old }
     ensures list { list.new ≡ list_after table.now working.old list.old }
