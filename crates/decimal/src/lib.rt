@@ -1,8 +1,10 @@
 // Decimal numbers in a text, as the case programs read them.
+#![tactic(auto)]
+
 ghost use Rattle.std.specs.Prelude.{◌≤◌, ◌<◌, length};
 
 // A number that was read, and the place behind it and the byte that ended it.
-#[derive(Drop)]
+#[derive(Clone, Copy)]
 pub struct Parsed {
     pub value: u64,
     pub next: usize,

@@ -1,21 +1,21 @@
 // Runs the image operation on the cases of standard input, a line each: capacity, family, p, q and
 // x in decimal, one space between. Writes a line for each answer: number, image and scale.
-ghost use Rattle.std.specs.Prelude.{◌<◌, length};
+#![tactic(auto)]
 
-use libc::{STDIN_FILENO, STDOUT_FILENO};
+ghost use Rattle.std.specs.Prelude.{◌<◌, IfOk, length};
 
-fn write_answer(number: u64, image: u64, scale: u64) {
-    io::print_decimal(STDOUT_FILENO, number);
-    io::write_all(STDOUT_FILENO, b" ");
-    io::print_decimal(STDOUT_FILENO, image);
-    io::write_all(STDOUT_FILENO, b" ");
-    io::print_decimal(STDOUT_FILENO, scale);
-    io::write_all(STDOUT_FILENO, b"\n");
+use std::io::{self, BufWriter, Write};
+
+// The most bytes of standard input that are read.
+const MOST_BYTES: usize = 65_536;
+
+fn write_answer<W: Write>(out: &mut W, number: u64, image: u64, scale: u64) -> io::Result<()> {
+    writeln!(out, "{number} {image} {scale}")
 }
 
 // Runs the case at a place and answers the place behind it.
-fn run_case(text: &[u8], at: usize) -> usize
-    ensures { at < length text.now → at < result }
+fn run_case<W: Write>(out: &mut W, text: &[u8], at: usize) -> io::Result<usize>
+    ensures { at < length text.now → IfOk result (λ next. at < next) }
 {
     let capacity = decimal::number_at(text, at);
     let family = decimal::number_at(text, capacity.next);
@@ -24,19 +24,22 @@ fn run_case(text: &[u8], at: usize) -> usize
     let x = decimal::number_at(text, q.next);
     let byte = (family.value % 256) as u8;
     let answer = functions::windowfloor_image(capacity.value, byte, p.value, q.value, x.value);
-    write_answer(answer.number, answer.image, answer.scale);
-    x.next
+    write_answer(out, answer.number, answer.image, answer.scale)?;
+    Ok(x.next)
 }
 
-fn run_cases(text: &[u8]) {
+fn run_cases<W: Write>(out: &mut W, text: &[u8]) -> io::Result<()> {
     let mut at = 0;
     while at < text.len() {
-        at = run_case(text, at);
+        at = run_case(out, text, at)?;
     }
+    Ok(())
 }
 
-fn main() {
-    let mut buffer = io::large_buffer();
-    let n = io::read_full(STDIN_FILENO, &mut buffer);
-    run_cases(&buffer[..n]);
+fn main(rt: HostRuntime) -> io::Result<()> {
+    let mut text = [0u8; MOST_BYTES];
+    let n = input::read_full(&mut rt.stdin(), &mut text)?;
+    let mut out = BufWriter::new(rt.alloc(), rt.stdout())?;
+    run_cases(&mut out, &text[..n])?;
+    out.flush()
 }

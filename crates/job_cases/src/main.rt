@@ -4,12 +4,16 @@
 // turn, and 0 behind them; what does not fit is ignored. Empty lines are skipped: they fill up a block
 // of 65,536 bytes, as no case lies in two. Writes a line for each answer: its nine numbers, then a
 // checksum of each buffer but the working one.
-ghost use Rattle.std.specs.Prelude.{◌≤◌, ◌<◌, length};
+#![tactic(auto)]
 
-use libc::{STDIN_FILENO, STDOUT_FILENO};
+ghost use Rattle.std.specs.Prelude.{◌≤◌, ◌<◌, IfOk, length};
 
-// The most blocks of standard input that are read.
+use std::io::{self, BufWriter, Read, Write};
+
+// The most blocks of standard input that are read, and the bytes of each.
 const MOST_BLOCKS: usize = 64;
+
+const BLOCK_BYTES: usize = 65_536;
 
 // The most bytes of a job, one more than it may have, and the most runs.
 const MOST_BYTES: usize = fields::MOST_BYTES + 1;
@@ -38,14 +42,12 @@ fn put_runs(text: &[u8], from: usize, job: &mut [u8], runs: usize) -> usize
 {
     let mut at = from;
     let mut end = 0;
-    let mut i = 0;
-    while i < runs {
+    for _ in 0..runs {
         let count = decimal::number_at(text, at);
         let byte = decimal::number_at(text, count.next);
         let bytes = buffers::at_most(count.value, MOST_BYTES);
         end = put_run(job, end, bytes, buffers::low_byte(byte.value));
         at = byte.next;
-        i += 1;
     }
     at
 }
@@ -58,37 +60,38 @@ fn make_job(text: &[u8], at: usize, job: &mut [u8]) -> usize
     put_runs(text, k.next, job, buffers::at_most(k.value, MOST_BYTES))
 }
 
-fn write_number(number: u64) {
-    io::write_all(STDOUT_FILENO, b" ");
-    io::print_decimal(STDOUT_FILENO, number);
+fn write_number<W: Write>(out: &mut W, number: u64) -> io::Result<()> {
+    write!(out, " {number}")
 }
 
-fn write_answer(answer: jobs::JobAnswer) {
-    io::print_decimal(STDOUT_FILENO, answer.number);
-    write_number(answer.n);
-    write_number(answer.floor);
-    write_number(answer.sum);
-    write_number(answer.scale);
-    write_number(answer.step);
-    write_number(answer.length);
-    write_number(answer.row);
-    write_number(answer.total);
+fn write_answer<W: Write>(out: &mut W, answer: jobs::JobAnswer) -> io::Result<()> {
+    write!(out, "{}", answer.number)?;
+    write_number(out, answer.n)?;
+    write_number(out, answer.floor)?;
+    write_number(out, answer.sum)?;
+    write_number(out, answer.scale)?;
+    write_number(out, answer.step)?;
+    write_number(out, answer.length)?;
+    write_number(out, answer.row)?;
+    write_number(out, answer.total)
 }
 
-fn answer_job(
+fn answer_job<W: Write>(
+    out: &mut W,
     job: &[u8],
     images: &mut [u32],
     working: &mut [u64],
     list: &mut [u32],
     scales: &mut [u32],
     floors: &mut [u32],
-) {
-    write_answer(jobs::windowfloor_job(job, images, working, list, scales, floors));
-    write_number(buffers::list_sum(images));
-    write_number(buffers::list_sum(list));
-    write_number(buffers::list_sum(scales));
-    write_number(buffers::list_sum(floors));
-    io::write_all(STDOUT_FILENO, b"\n");
+) -> io::Result<()> {
+    let answer = jobs::windowfloor_job(job, images, working, list, scales, floors);
+    write_answer(out, answer)?;
+    write_number(out, buffers::list_sum(images))?;
+    write_number(out, buffers::list_sum(list))?;
+    write_number(out, buffers::list_sum(scales))?;
+    write_number(out, buffers::list_sum(floors))?;
+    writeln!(out)
 }
 
 fn fill_buffers(
@@ -105,7 +108,8 @@ fn fill_buffers(
     buffers::fill(floors, 600_000, 1);
 }
 
-fn run_job(
+fn run_job<W: Write>(
+    out: &mut W,
     text: &[u8],
     at: usize,
     job: &mut [u8],
@@ -114,17 +118,18 @@ fn run_job(
     list: &mut [u32],
     scales: &mut [u32],
     floors: &mut [u32],
-) -> usize
-    ensures { at ≤ result }
+) -> io::Result<usize>
+    ensures { IfOk result (λ next. at ≤ next) }
 {
     let end = make_job(text, at, job);
     fill_buffers(images, working, list, scales, floors);
-    answer_job(job, images, working, list, scales, floors);
-    end
+    answer_job(out, job, images, working, list, scales, floors)?;
+    Ok(end)
 }
 
 // Reads b and the job at a place, runs it, and answers the place behind it.
-fn read_and_run(
+fn read_and_run<W: Write>(
+    out: &mut W,
     text: &[u8],
     at: usize,
     images: &mut [u32],
@@ -132,13 +137,14 @@ fn read_and_run(
     list: &mut [u32],
     scales: &mut [u32],
     floors: &mut [u32],
-) -> usize
-    ensures { at ≤ result }
+) -> io::Result<usize>
+    ensures { IfOk result (λ next. at ≤ next) }
 {
     let b = decimal::number_at(text, at);
     let bytes = buffers::at_most(b.value, MOST_BYTES);
-    let mut job = io::large_buffer();
+    let mut job = [0u8; MOST_BYTES];
     run_job(
+        out,
         text,
         b.next,
         &mut job[..bytes],
@@ -151,8 +157,8 @@ fn read_and_run(
 }
 
 // Runs the case at a place and answers the place behind it.
-fn run_case(text: &[u8], at: usize) -> usize
-    ensures { at < length text.now → at < result }
+fn run_case<W: Write>(out: &mut W, text: &[u8], at: usize) -> io::Result<usize>
+    ensures { at < length text.now → IfOk result (λ next. at < next) }
 {
     let i = decimal::number_at(text, at);
     let w = decimal::number_at(text, i.next);
@@ -170,6 +176,7 @@ fn run_case(text: &[u8], at: usize) -> usize
     let mut scales = [0u32; MOST_PLACES];
     let mut floors = [0u32; MOST_PLACES];
     read_and_run(
+        out,
         text,
         f.next,
         &mut images[..sizes],
@@ -180,31 +187,33 @@ fn run_case(text: &[u8], at: usize) -> usize
     )
 }
 
-fn run_cases(text: &[u8]) {
+fn run_cases<W: Write>(out: &mut W, text: &[u8]) -> io::Result<()> {
     let mut at = 0;
     while at < text.len() {
         if text[at] == b'\n' {
             at += 1;
         } else {
-            at = run_case(text, at);
+            at = run_case(out, text, at)?;
         }
     }
+    Ok(())
 }
 
-fn run_block(buffer: &mut [u8]) {
-    let n = io::read_full(STDIN_FILENO, buffer);
-    run_cases(&buffer[..n]);
+fn run_block<R: Read, W: Write>(reader: &mut R, out: &mut W, buffer: &mut [u8]) -> io::Result<()> {
+    let n = input::read_full(reader, buffer)?;
+    run_cases(out, &buffer[..n])
 }
 
-fn run_blocks(buffer: &mut [u8]) {
-    let mut i = 0;
-    while i < MOST_BLOCKS {
-        run_block(buffer);
-        i += 1;
+fn run_blocks<R: Read, W: Write>(reader: &mut R, out: &mut W, buffer: &mut [u8]) -> io::Result<()> {
+    for _ in 0..MOST_BLOCKS {
+        run_block(reader, out, buffer)?;
     }
+    Ok(())
 }
 
-fn main() {
-    let mut buffer = io::large_buffer();
-    run_blocks(&mut buffer);
+fn main(rt: HostRuntime) -> io::Result<()> {
+    let mut buffer = [0u8; BLOCK_BYTES];
+    let mut out = BufWriter::new(rt.alloc(), rt.stdout())?;
+    run_blocks(&mut rt.stdin(), &mut out, &mut buffer)?;
+    out.flush()
 }

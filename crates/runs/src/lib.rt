@@ -1,6 +1,8 @@
 // Lists of numbers in a text, as the case programs read them: k and k runs (count, first, step), in
 // decimal. The numbers of a run go on by its step, mod 2^32, those of the next come behind them, and what
 // does not fit is ignored.
+#![tactic(auto)]
+
 ghost use Rattle.std.specs.Prelude.{◌≤◌, length};
 
 // The most numbers of a list, more than one of sizes may have, and the most runs.
@@ -22,15 +24,13 @@ fn put_runs(text: &[u8], from: usize, list: &mut [u32], runs: usize) -> usize
 {
     let mut at = from;
     let mut end = 0;
-    let mut i = 0;
-    while i < runs {
+    for _ in 0..runs {
         let count = decimal::number_at(text, at);
         let first = decimal::number_at(text, count.next);
         let step = decimal::number_at(text, first.next);
         let low = buffers::low_bits(first.value);
         end = put_run(list, end, count.value, low, buffers::low_bits(step.value));
         at = step.next;
-        i += 1;
     }
     at
 }

@@ -2,9 +2,14 @@
 // n w l s k and k pairs. The table has n entries, the working buffer w places and the list buffer l.
 // Entry i is i * s, or the value of the last pair (i, value); a pair with another place is ignored.
 // Writes a line for each answer: number, length, a checksum of each buffer, and the list.
-ghost use Rattle.std.specs.Prelude.{◌≤◌, ◌<◌, length};
+#![tactic(auto)]
 
-use libc::{STDIN_FILENO, STDOUT_FILENO};
+ghost use Rattle.std.specs.Prelude.{◌≤◌, ◌<◌, IfOk, length};
+
+use std::io::{self, BufWriter, Write};
+
+// The most bytes of standard input that are read.
+const MOST_BYTES: usize = 65_536;
 
 // The most entries of a case, one more than a table may have, and the most pairs.
 const MOST_ENTRIES: usize = tables::MOST_ENTRIES + 1;
@@ -25,30 +30,26 @@ fn set_entries(text: &[u8], from: usize, table: &mut [u32], pairs: usize) -> usi
     ensures { from ≤ result }
 {
     let mut at = from;
-    let mut i = 0;
-    while i < pairs {
+    for _ in 0..pairs {
         let place = decimal::number_at(text, at);
         let value = decimal::number_at(text, place.next);
         set_entry(table, place.value, buffers::low_bits(value.value));
         at = value.next;
-        i += 1;
     }
     at
 }
 
-fn write_number(number: u64) {
-    io::write_all(STDOUT_FILENO, b" ");
-    io::print_decimal(STDOUT_FILENO, number);
+fn write_number<W: Write>(out: &mut W, number: u64) -> io::Result<()> {
+    write!(out, " {number}")
 }
 
 // Writes the first places of a list.
-fn write_list(list: &[u32], count: u64) {
+fn write_list<W: Write>(out: &mut W, list: &[u32], count: u64) -> io::Result<()> {
     let n = buffers::at_most(count, list.len());
-    let mut i = 0;
-    while i < n {
-        write_number(list[i] as u64);
-        i += 1;
+    for number in &list[..n] {
+        write_number(out, u64::from(*number))?;
     }
+    Ok(())
 }
 
 // Makes the table from s, k and the pairs at a place and answers the place behind them.
@@ -61,35 +62,41 @@ fn make_table(text: &[u8], at: usize, table: &mut [u32]) -> usize
     set_entries(text, k.next, table, buffers::at_most(k.value, MOST_ENTRIES))
 }
 
-fn check_table(table: &[u32], working: &mut [u64], list: &mut [u32]) {
+fn check_table<W: Write>(
+    out: &mut W,
+    table: &[u32],
+    working: &mut [u64],
+    list: &mut [u32],
+) -> io::Result<()> {
     buffers::fill_working(working);
     buffers::fill(list, 900_000, 1);
     let answer = tables::windowfloor_table_check(table, working, list);
-    io::print_decimal(STDOUT_FILENO, answer.number);
-    write_number(answer.length);
-    write_number(buffers::working_sum(working));
-    write_number(buffers::list_sum(list));
-    write_list(list, answer.length);
-    io::write_all(STDOUT_FILENO, b"\n");
+    write!(out, "{}", answer.number)?;
+    write_number(out, answer.length)?;
+    write_number(out, buffers::working_sum(working))?;
+    write_number(out, buffers::list_sum(list))?;
+    write_list(out, list, answer.length)?;
+    writeln!(out)
 }
 
-fn run_table(
+fn run_table<W: Write>(
+    out: &mut W,
     text: &[u8],
     at: usize,
     table: &mut [u32],
     working: &mut [u64],
     list: &mut [u32],
-) -> usize
-    ensures { at ≤ result }
+) -> io::Result<usize>
+    ensures { IfOk result (λ next. at ≤ next) }
 {
     let end = make_table(text, at, table);
-    check_table(table, working, list);
-    end
+    check_table(out, table, working, list)?;
+    Ok(end)
 }
 
 // Runs the case at a place and answers the place behind it.
-fn run_case(text: &[u8], at: usize) -> usize
-    ensures { at < length text.now → at < result }
+fn run_case<W: Write>(out: &mut W, text: &[u8], at: usize) -> io::Result<usize>
+    ensures { at < length text.now → IfOk result (λ next. at < next) }
 {
     let n = decimal::number_at(text, at);
     let w = decimal::number_at(text, n.next);
@@ -101,6 +108,7 @@ fn run_case(text: &[u8], at: usize) -> usize
     let mut working = [0u64; MOST_PLACES];
     let mut list = [0u32; MOST_PLACES];
     run_table(
+        out,
         text,
         l.next,
         &mut table[..entries],
@@ -109,15 +117,18 @@ fn run_case(text: &[u8], at: usize) -> usize
     )
 }
 
-fn run_cases(text: &[u8]) {
+fn run_cases<W: Write>(out: &mut W, text: &[u8]) -> io::Result<()> {
     let mut at = 0;
     while at < text.len() {
-        at = run_case(text, at);
+        at = run_case(out, text, at)?;
     }
+    Ok(())
 }
 
-fn main() {
-    let mut buffer = io::large_buffer();
-    let n = io::read_full(STDIN_FILENO, &mut buffer);
-    run_cases(&buffer[..n]);
+fn main(rt: HostRuntime) -> io::Result<()> {
+    let mut text = [0u8; MOST_BYTES];
+    let n = input::read_full(&mut rt.stdin(), &mut text)?;
+    let mut out = BufWriter::new(rt.alloc(), rt.stdout())?;
+    run_cases(&mut out, &text[..n])?;
+    out.flush()
 }
