@@ -10,9 +10,10 @@
 #     make releases   the library and the program against the answers of earlier releases
 #     make outside    these three and the tests of the independent implementation: all but `rt ci`
 #     make bench      the library against plain and tuned C
-#     make clean      removes target/
+#     make clean      removes target/, and what rt keeps in crates/*/out/
 #
-# With -j2 the proofs, the archives and the tests go on two at a time.
+# With -j2 the proofs, the archives and the tests go on two at a time. rt keeps what it has proved in
+# crates/NAME/out/, and proves a crate once for all that stand on it.
 
 CC = gcc
 CXX = g++
@@ -22,66 +23,53 @@ CXXFLAGS = -std=c++98 -O2 -g $(WARNINGS) -Iinclude
 SANITIZED = -fsanitize=address,undefined -fno-sanitize-recover=all
 PREFIX = /usr/local
 LIBRARY = target/libwindowfloor.a
-# The crates with functions for C. rt makes no archive of any other: what these reach in the crates
-# below is in their own.
+# The crates with functions for C. Over each stands a static library, NAME_c, that exports them: what it reaches in
+# the crates below is in its archive.
 EXPORTING = functions tables jobs sweeps exact
-ARCHIVES = $(EXPORTING:%=target/staticlib/lib%.a)
+ARCHIVES = $(EXPORTING:%=target/archives/lib%_c.a)
+# Machine code for any x86-64.
+CPU = x86-64
 COMPARE = tests/c/compare.c tests/c/inputs.c tests/c/reference.c
 SOURCES = $(wildcard examples/*.c tests/c/*.c tests/releases/*.c bench/*.c)
 INSTALLED = include/windowfloor.h lib/libwindowfloor.a lib/pkgconfig/windowfloor.pc bin/windowfloor
 VERSION = $(shell sed -n 's/.*define WINDOWFLOOR_VERSION "\(.*\)"/\1/p' include/windowfloor.h)
 COMPILERS := gcc $(shell command -v clang >/dev/null && echo clang)
-sources = crates.txt $(shell find $(1:%=crates/%) -name '*.rt' -o -name '*.antt')
+# The files of a crate and of those that its line of crates.txt names.
+named = $(shell sed -n 's/^$1\( staticlib\)*: *//p' crates.txt)
+sources = crates.txt $(shell find $(patsubst %,crates/%,$1 $(call named,$1)) -name out -prune -o \
+	\( -name '*.rt' -o -name '*.antt' \) -print)
 
 .SECONDEXPANSION:
 .DELETE_ON_ERROR:
 
 all: $(LIBRARY) target/planner
 
-# A crate with functions for C is proved twice: for the crates above it by `rt check`, and for its archive
-# by `rt staticlib`, which takes over no earlier proof of the crate itself. Both can go on at once,
-# each with one crate at a time; `rt staticlib` does so in a room with logs of its own, since rt names a log
-# by its crate. The room shares the crates and what `rt check` has proved of them.
+target/archives/lib%.a: $$(call sources,$$*)
+	@mkdir -p $(@D)
+	cd crates/$* && rt lib --cpu $(CPU) >../../target/$*.log 2>&1 || { cat ../../target/$*.log; exit 1; }
+	cp crates/$*/out/lib$*.a $@
 
-target/proved-%.log: $$(call sources,$$*)
-	@mkdir -p target
-	rt check $* >$@ 2>&1 || { cat $@; exit 1; }
+# rt builds the program when it runs it: here on its own stored input.
+target/bin/windowfloor: $$(call sources,windowfloor) $$(call sources,report) \
+		crates/windowfloor/stdin crates/windowfloor/stdout
+	@mkdir -p $(@D)
+	cd crates/windowfloor && rt run --cpu $(CPU) <stdin >../../target/windowfloor.txt 2>../../target/windowfloor.log \
+		|| { cat ../../target/windowfloor.log; exit 1; }
+	cmp target/windowfloor.txt crates/windowfloor/stdout
+	cp crates/windowfloor/out/windowfloor $@
 
-target/staticlib/lib%.a: $$(call sources,$$*) | target/room
-	cd target/room && rt staticlib $* >$*.log 2>&1 || { cat $*.log; exit 1; }
-
-target/room:
-	mkdir -p target/rlib target/stamp target/staticlib $@/target
-	ln -s ../../crates.txt ../../crates $@
-	ln -s ../../rlib ../../stamp ../../staticlib $@/target
-
-# Each behind what it needs, and behind the one that goes before it.
-target/proved-tables.log: target/proved-functions.log
-target/proved-fields.log: target/proved-tables.log
-target/proved-chains.log: target/proved-fields.log
-target/proved-lists.log: target/proved-chains.log
-target/proved-blocks.log: target/proved-chains.log | target/proved-lists.log
-target/proved-jobs.log: target/proved-blocks.log
-target/staticlib/libtables.a: target/proved-functions.log | target/staticlib/libfunctions.a
-target/staticlib/libjobs.a: target/proved-blocks.log | target/staticlib/libtables.a
-target/staticlib/libsweeps.a: target/proved-jobs.log target/proved-lists.log | target/staticlib/libjobs.a
-target/staticlib/libexact.a: target/proved-jobs.log target/proved-lists.log | target/staticlib/libsweeps.a
-
-# touch: rt leaves the program as it is where nothing that it is made of has changed.
-target/bin/windowfloor: $$(call sources,report windowfloor) target/proved-jobs.log
-	rt check windowfloor >target/windowfloor.log 2>&1 || { cat target/windowfloor.log; exit 1; }
-	touch $@
-
-# Functions start at a cache line, so that their speed does not depend on what is linked before them. The sweep
-# starts SWEEP_AT bytes behind one: then the loop in which family 1 spends its time starts at one (`make bench`).
-SWEEP_AT = 32
-$(LIBRARY): $(ARCHIVES)
+# Functions start at a cache line, so that their speed does not depend on what is linked before them. Two of them
+# start 16 bytes behind one: then the loop of a table check, of 49 bytes, lies on one, and that in which a sweep of family 1
+# spends its time, of 115 bytes, on two (`objdump -d target/members/sweeps_c.o`, `make bench`).
+BEHIND = tables_c/windowfloor_table_check sweeps_c/windowfloor_sweep
+$(LIBRARY): $(ARCHIVES) Makefile
 	rm -rf $@ target/members
 	mkdir target/members
 	for archive in $(ARCHIVES); do (cd target/members && ar x ../../$$archive) || exit 1; done
-	echo 'SECTIONS { .text.windowfloor_sweep : { . += $(SWEEP_AT); *(.text.windowfloor_sweep) } }' >target/sweep.ld
-	ld -r -T target/sweep.ld target/members/sweeps.o -o target/sweeps.o
-	mv target/sweeps.o target/members/sweeps.o
+	for place in $(BEHIND); do \
+		echo "SECTIONS { .text.$${place#*/} : { . += 16; *(.text.$${place#*/}) } }" >target/place.ld && \
+		ld -r -T target/place.ld target/members/$${place%/*}.o -o target/placed.o && \
+		mv target/placed.o target/members/$${place%/*}.o || exit 1; done
 	for member in target/members/*.o; do objcopy --set-section-alignment '.text.*=64' $$member || exit 1; done
 	ar rcs $@ target/members/*.o
 
@@ -168,6 +156,6 @@ uninstall:
 	rm -f $(foreach file,$(INSTALLED),'$(DESTDIR)$(PREFIX)/$(file)')
 
 clean:
-	rm -rf target
+	rm -rf target crates/*/out
 
 .PHONY: all install uninstall header test program releases reference outside bench clean

@@ -1,7 +1,7 @@
 """Holds the values that docs/REFERENCE.md shows to the independent
 implementation, its names and numbers to that and to the C header, and
 docs/PROMISES.md to the must-fail edits and to the sections of
-docs/REFERENCE.md."""
+docs/REFERENCE.md, and the exports to the operations that they call."""
 
 import pathlib
 import re
@@ -227,6 +227,43 @@ class Promises(unittest.TestCase):
         self.assertLessEqual(led_from, headings)
         self.assertLessEqual({"2.%d" % k for k in range(1, 9)} | {"5.%d" % k for k in range(2, 7)},
                              led_from)
+
+
+def operation(crate):
+    """The source of a crate, and of its function windowfloor_... all from the name to the body, whatever the layout."""
+    source = (ROOT / "crates" / crate / "src" / "lib.rt").read_text(encoding="utf-8")
+    (head,) = re.findall(r" fn (windowfloor_\w+\(.*?)^\{", source, re.M | re.S)
+    return source, " ".join(re.sub(r",?\s*\)", ")", re.sub(r"\(\s+", "(", head)).split())
+
+
+def words_of(source):
+    """The words that the clauses of a source take from elsewhere, with the module of each."""
+    taken = re.findall(r"^ghost use ([\w.]+)\.\{([^}]*)\};", source, re.M)
+    return {(module, word.strip()) for module, words in taken for word in words.split(",") if word.strip()}
+
+
+class Exports(unittest.TestCase):
+
+    def setUp(self):
+        makefile = (ROOT / "Makefile").read_text(encoding="utf-8")
+        self.exporting = re.search(r"^EXPORTING = (.*)$", makefile, re.M).group(1).split()
+
+    def test_crates(self):
+        self.assertEqual({f"{name}_c" for name in self.exporting}, {path.name for path in ROOT.glob("crates/*_c")})
+        self.assertEqual(len(self.exporting), 5)
+
+    def test_contracts(self):
+        """Each export has the parameters, the answer and the clauses of the operation that it calls, in the same words."""
+        for name in self.exporting:
+            (library, called), (export, exported) = operation(name), operation(f"{name}_c")
+            self.assertEqual(exported, called)
+            self.assertLessEqual(words_of(export), words_of(library), name)
+
+    def test_symbols(self):
+        """C's names are those of the exports alone."""
+        for path in ROOT.glob("crates/*/src/*.rt"):
+            exports = path.read_text(encoding="utf-8").count('#[unsafe(no_mangle)]\npub extern "C" fn windowfloor_')
+            self.assertEqual(exports, path.parents[1].name.endswith("_c"), path)
 
 
 class Names(unittest.TestCase):
