@@ -36,7 +36,7 @@ VERSION = $(shell sed -n 's/.*define WINDOWFLOOR_VERSION "\(.*\)"/\1/p' include/
 COMPILERS := gcc $(shell command -v clang >/dev/null && echo clang)
 # The files of a crate and of those that its line of crates.txt names.
 named = $(shell sed -n 's/^$1\( staticlib\)*: *//p' crates.txt)
-sources = crates.txt $(shell find $(patsubst %,crates/%,$1 $(call named,$1)) -name out -prune -o \
+sources = crates.txt $(shell find $(wildcard $(patsubst %,crates/%,$1 $(call named,$1))) -name out -prune -o \
 	\( -name '*.rt' -o -name '*.antt' \) -print)
 
 .SECONDEXPANSION:

@@ -2,12 +2,13 @@
 use mathlib.Core.Path.{◌≡◌, refl, ap, sym, ◌∙◌}
 use mathlib.Core.List.{List, [], ◌∷◌, ◌++◌, map, map-append, append_assoc}
 use mathlib.Core.Logic.{inl, inr}
-use Prim.Native.Nat.{ℕ, zero, suc, ◌+◌, ◌*◌, ◌^◌, ◌≤◌, ◌<◌}
+use Prim.Native.Nat.{ℕ, suc, ◌+◌, ◌*◌, ◌^◌, ◌≤◌, ◌<◌}
 use native.Mathlib.Nat.{mul-le-mul_right}
 use native.Mathlib.Numerals.{add-one}
 use native.Mathlib.Omega.{arith}
 use lib.ListN.{length, get_or, take, drop, set, length-map, length-append, length-take, length-drop}
-use lib.Seq.{take-nil, drop-nil, take-suc, take_all, drop-cons, take-take, set_at, length-take-le, get_or-take, get_or-drop, ext_get_or}
+use lib.Seq.{take-suc, take_all, drop-cons, take-take, set_at, length-take-le, get_or-take, get_or-drop, ext_get_or}
+use Rattle.std.proofs.lemmas.List.{drop-take}
 use Rattle.functions.specs.Words.{total, most_count, weighted, EachWithin}
 use Rattle.functions.specs.Families.{◌up◌}
 use Rattle.functions.proofs.Superadditive.{total_append}
@@ -53,11 +54,6 @@ halfword_part bytes at n i l =
     let byte : (j : ℕ) → j < 2 * n → get_or (take (2 * n) (drop (2 * at) bytes)) j 0 ≡ get_or bytes (2 * at + j) 0 = λ j m. get_or-take (2 * n) (drop (2 * at) bytes) j 0 m ∙ get_or-drop (2 * at) bytes j 0 in
     omega (arith, byte (2 * i) (omega arith) ∙ ap (λ (j : ℕ). get_or bytes j 0) place, byte (2 * i + 1) (omega arith) ∙ ap (λ (j : ℕ). get_or bytes j 0) next)
 
--- nothing has no part
-pub part_of_none : (bytes : List ℕ) (at n : ℕ) → length bytes ≡ 0 → bytes ≡ take n (drop at bytes)
-part_of_none [] at n none = sym (ap (take n) (drop-nil at) ∙ take-nil n)
-part_of_none (b ∷ bytes) at n none = absurd (omega arith)
-
 -- the counts of a part are that part of the counts
 module _ (bytes : List ℕ) (all at n : ℕ) (within : at + n ≤ all) where
   abbrev part : List ℕ
@@ -92,9 +88,6 @@ module _ (bytes images : List ℕ) (at n k : ℕ) (c : Counted bytes images) (wi
   long : length (take n (drop at images)) ≡ n
   long = length-take-le n (drop at images) (omega (arith, length-drop at images))
 
-  pub part_counted : NoneOrEach (take (2 * n) (drop (2 * at) bytes)) (length (take k (drop at images))) × (length (take k (drop at images)) ≤ most_sizes)
-  part_counted = rw (k-is, long) (none_or_part bytes (length images) at n within c.none_or_each, omega (arith, within, c.few))
-
   -- a part is within the scale too
   part_within : (d : ℕ) → EachWithin d images → EachWithin d (take n (drop at images))
   part_within d most i l =
@@ -107,22 +100,11 @@ module _ (bytes images : List ℕ) (at n k : ℕ) (c : Counted bytes images) (wi
         λ most each. rw long at (here.1 most (part_within most each)),
       )
 
-drop_take : (m n : ℕ) (xs : List ℕ) → drop m (take (m + n) xs) ≡ take n (drop m xs)
-drop_take zero n xs =
-    let same : 0 + n ≡ n = omega arith in
-    ap (λ (k : ℕ). take k xs) same
-drop_take (suc m) n [] =
-    let same : suc m + n ≡ suc (m + n) = omega arith in
-    ap (λ (k : ℕ). drop (suc m) (take {A = ℕ} k [])) same ∙ sym (take-nil n)
-drop_take (suc m) n (x ∷ xs) =
-    let same : suc m + n ≡ suc (m + n) = omega arith in
-    ap (λ (k : ℕ). drop (suc m) (take k (x ∷ xs))) same ∙ drop_take m n xs
-
 -- the sum over the first places, and over n more
 weighted_more : (at n : ℕ) (counts xs : List ℕ) → weighted (take (at + n) counts) (take (at + n) xs) ≡ weighted (take at counts) (take at xs) + weighted (take n (drop at counts)) (take n (drop at xs))
 weighted_more at n counts xs =
     weighted_split at (take (at + n) counts) (take (at + n) xs)
-    ∙ rw (take-take at (at + n) counts (omega arith), take-take at (at + n) xs (omega arith), drop_take at n counts, drop_take at n xs)
+    ∙ rw (take-take at (at + n) counts (omega arith), take-take at (at + n) xs (omega arith), drop-take at n counts, drop-take at n xs)
 
 -- after k blocks: the place behind them, their sums, and what is written
 pub record BlocksDone (numbers counts images : List ℕ) (d : ℕ) (floors₀ : List ℕ) (sum all at k : ℕ) (floors : List ℕ) : Type 0 where

@@ -1,23 +1,30 @@
 -- A list cut into blocks: one block more, images in the place of sizes, and what 23 leaves.
 use mathlib.Core.Path.{◌≡◌, refl, ap, ◌∙◌}
-use mathlib.Core.Bool.{true, false, ◌&&◌, and-eq-true_iff}
+use mathlib.Core.Bool.{true, ◌&&◌, and-eq-true_iff}
 use mathlib.Core.List.{List, [], ◌∷◌, ◌++◌, map}
-use Prim.Native.Nat.{ℕ, zero, suc, ◌+◌, ◌≤◌, ◌<◌}
+use Prim.Native.Nat.{ℕ, suc, ◌+◌, ◌/◌, ◌%◌, ◌≤◌}
 use native.Mathlib.Omega.{arith}
-use borrow.Author.Tests.{eqb-true, leb-true, le-leb, lt-leb}
+use borrow.Author.Tests.{eqb-true, leb-true}
 use lib.Dec.{leb, eqb}
 use lib.ListN.{length, take, drop, length-drop}
 use lib.Seq.{drop-drop}
+use Rattle.std.proofs.lemmas.List.{take-map, drop-map}
 use Rattle.functions.specs.Words.{total, weighted}
 use Rattle.functions.specs.Families.{◌up◌}
 use Rattle.functions.proofs.Quotient.{up_zero, up_reaches, up_least}
+use Rattle.fields.specs.Bytes.{halfwords}
 use Rattle.fields.specs.Parts.{Step}
 use Rattle.fields.specs.Grammar.{most_blocks}
 use Rattle.chains.specs.Chain.{chain_image, chain_scale, chain_floor}
 use Rattle.chains.specs.Sizes.{each}
+use Rattle.chains.proofs.Counts.{whole_halfwords}
 use Rattle.functions.proofs.Totals.{total_none, total_cons, weighted_none, weighted_split}
 use Rattle.blocks.specs.Block.{blocks_fit, Block, divide, block_floor}
 use Rattle.blocks.specs.Sums.{sum_up}
+
+-- as many blocks as whole numbers
+pub block_count : (bytes : List ℕ) → length bytes % 2 ≡ 0 → length (halfwords bytes) ≡ length bytes / 2
+block_count bytes even = (whole_halfwords bytes even).count
 
 -- what 23 leaves of the numbers of blocks
 pub record Fit (numbers : List ℕ) (n : ℕ) : Type 0 where
@@ -32,21 +39,6 @@ fit numbers n e =
       few = leb-true (length numbers) most_blocks ((and-eq-true_iff (leb (length numbers) most_blocks) (each (leb 1) numbers)).0 both.0).0;
       add_up = eqb-true (total numbers) n both.1;
     }
-
--- the tests one after the other
-module _ (numbers : List ℕ) (n : ℕ) where
-  pub too_many : most_blocks < length numbers → blocks_fit numbers n ≡ false
-  unfolding blocks_fit
-  too_many over = rw (lt-leb (length numbers) most_blocks over)
-
-  module _ (few : length numbers ≤ most_blocks) where
-    pub an_empty_one : each (leb 1) numbers ≡ false → blocks_fit numbers n ≡ false
-    unfolding blocks_fit
-    an_empty_one e = rw (le-leb (length numbers) most_blocks few, e)
-
-    pub none_empty : each (leb 1) numbers ≡ true → blocks_fit numbers n ≡ eqb (total numbers) n
-    unfolding blocks_fit
-    none_empty e = rw (le-leb (length numbers) most_blocks few, e)
 
 -- as many blocks as numbers
 pub divide_count : (numbers counts sizes : List ℕ) → length (divide numbers counts sizes) ≡ length numbers
@@ -83,20 +75,10 @@ module _ (d : ℕ) (positive : 1 ≤ d) where
       omega (arith, ap (λ (sum : ℕ). sum up d) (weighted_split n counts xs), up_plus one others, whole_within numbers (drop n counts) (drop n xs) left, total_cons (one up d) (map (sum_up d) (divide numbers (drop n counts) (drop n xs))))
 
 -- the floors of blocks are the sums of their images, rounded up by the scale
-map_take : (f : ℕ → ℕ) (n : ℕ) (xs : List ℕ) → take n (map f xs) ≡ map f (take n xs)
-map_take f zero xs = refl
-map_take f (suc n) [] = refl
-map_take f (suc n) (x ∷ xs) = ap (λ (l : List ℕ). f x ∷ l) (map_take f n xs)
-
-map_drop : (f : ℕ → ℕ) (n : ℕ) (xs : List ℕ) → drop n (map f xs) ≡ map f (drop n xs)
-map_drop f zero xs = refl
-map_drop f (suc n) [] = refl
-map_drop f (suc n) (x ∷ xs) = map_drop f n xs
-
 module _ (c : ℕ) (S : List Step) where
   pub floors_of_images : (numbers counts sizes : List ℕ) → map (sum_up (chain_scale c S)) (divide numbers counts (map (chain_image c S) sizes)) ≡ map (block_floor c S) (divide numbers counts sizes)
   unfolding divide sum_up block_floor chain_floor
   floors_of_images [] counts sizes = refl
   floors_of_images (n ∷ numbers) counts sizes =
-      rw (map_take (chain_image c S) n sizes, map_drop (chain_image c S) n sizes)
+      rw (take-map (chain_image c S) n sizes, drop-map (chain_image c S) n sizes)
       (ap (λ (l : List ℕ). chain_floor c S (take n counts) (take n sizes) ∷ l) (floors_of_images numbers (drop n counts) (drop n sizes)))

@@ -15,33 +15,27 @@ pub struct BlockSums {
     pub total: u64,
 }
 
-// The total of n numbers of two bytes.
-fn add_up(numbers: &[u8], n: usize) -> u64
-    requires { (length numbers.now ≡ 2 * n) × (n ≤ most_blocks) }
+// The total of numbers of two bytes.
+fn add_up(numbers: &[u8]) -> u64
+    requires { (length numbers.now % 2 ≡ 0) × (length numbers.now ≤ 2 * most_blocks) }
     ensures { result ≡ total (halfwords numbers.now) }
 {
     let mut sum = 0;
-    let mut i = 0;
-    while i < n {
+    for i in 0..numbers.len() / 2 {
         sum += fields::words::halfword_at(numbers, 2 * i);
-        i += 1;
     }
     sum
 }
 
 // Whether the blocks divide a list of so many sizes: refusal 23 is that they do not.
+#[tactic(auto, using(crate::proofs::Dividing::block_count), unfolding(crate::specs::Block::blocks_fit))]
 pub fn blocks_fit(numbers: &[u8], sizes: usize) -> bool
     requires { length numbers.now % 2 ≡ 0 }
     ensures { result ≡ blocks_fit (halfwords numbers.now) sizes }
 {
-    let n = numbers.len() / 2;
-    if fields::MOST_BLOCKS < n {
-        return false;
-    }
-    if !chains::list::counts_positive(numbers, n) {
-        return false;
-    }
-    add_up(numbers, n) == sizes as u64
+    numbers.len() / 2 <= fields::MOST_BLOCKS
+        && chains::list::counts_positive(numbers)
+        && add_up(numbers) == sizes as u64
 }
 
 // The counts of n sizes from a place on; none where none are given.
@@ -49,10 +43,10 @@ fn counts_from(counts: &[u8], at: usize, n: usize) -> &[u8]
     requires { (length counts.now ≡ 0) ⊎ (2 * (at + n) ≤ length counts.now) }
     ensures { result.now ≡ take (2 * n) (drop (2 * at) counts.now) }
 {
-    if counts.len() == 0 {
+    if counts.is_empty() {
         return counts;
     }
-    fields::part_at(counts, 2 * at, 2 * n)
+    &counts[2 * at..2 * (at + n)]
 }
 
 // The sum of count times image over n images from a place on.
@@ -62,8 +56,7 @@ fn sum_from(counts: &[u8], images: &[u32], at: usize, n: usize) -> u64
         (take n (drop at images.now)))
         × ((most : ℕ) → EachWithin most images.now → result ≤ n * (most_count * most)) }
 {
-    let end = at + n;
-    chains::list::sum_of(counts_from(counts, at, n), &images[at..end])
+    chains::list::sum_of(counts_from(counts, at, n), &images[at..at + n])
 }
 
 // Writes each block's sum, divided by the scale and rounded up, and adds up the sums and what it wrote.
@@ -78,12 +71,10 @@ pub fn write_floors(
     ensures { Summed counts.now numbers.now images.now scale
         floors.old result floors.new }
 {
-    let blocks = numbers.len() / 2;
     let mut sum = 0;
     let mut total = 0;
     let mut at = 0;
-    let mut k = 0;
-    while k < blocks {
+    for k in 0..numbers.len() / 2 {
         let n = fields::words::halfword_at(numbers, 2 * k) as usize;
         let part = sum_from(counts, images, at, n);
         let floor = functions::round_up(part, scale);
@@ -91,7 +82,6 @@ pub fn write_floors(
         sum += part;
         total += floor;
         at += n;
-        k += 1;
     }
     BlockSums { sum, total }
 }

@@ -1,7 +1,8 @@
 // Buffers of the case programs: what they hold before a call, and checksums of them after it.
 #![tactic(auto)]
 
-ghost use Rattle.std.specs.Prelude.{◌≡◌, ◌+◌, ◌*◌, ◌%◌, ◌^◌, ◌<◌, ◌≤◌, EachIndex, length, min, slice_index};
+ghost use Rattle.std.specs.Prelude.{◌≡◌, ℕ, ◌+◌, ◌*◌, ◌%◌, ◌^◌, ◌<◌, ◌≤◌, EachIndex, length, map, min, slice_index};
+ghost use Rattle.std.specs.List.{HoldsAt};
 ghost use Rattle.buffers.specs.Checksum.{checksum, with_value};
 
 const TWO_TO_32: u64 = 4_294_967_296;
@@ -10,13 +11,10 @@ pub fn at_most(value: u64, limit: usize) -> usize
     ensures within { result ≤ limit }
     ensures value { result ≡ min value limit }
 {
-    if value < limit as u64 {
-        value as usize
-    } else {
-        limit
-    }
+    value.min(limit as u64) as usize
 }
 
+// Two functions: one for both widths would need a trait with the two moduli, which is longer.
 pub fn low_byte(value: u64) -> u8
     ensures { result ≡ value % 256 }
 {
@@ -29,27 +27,30 @@ pub fn low_bits(value: u64) -> u32
     (value % TWO_TO_32) as u32
 }
 
-// Place i becomes first + i * step, mod 2^32.
-pub fn fill(places: &mut [u32], first: u32, step: u32)
-    ensures { EachIndex places.new (λ i. slice_index places.new i ≡ (first + i * step) % 2 ^ 32) }
+// Place i becomes what is made of first + i * step, mod 2^32.
+fn fill_by<T: Drop, F: Fn(u32) -> T>(places: &mut [T], first: u32, step: u32, make: F)
+    requires { F.IsAlwaysCallable make }
+    ensures { (i : ℕ) → i < length places.new → HoldsAt (λ made. F.post make ((first + i * step) % 2 ^ 32) made) places.new i }
 {
     let mut value = first;
     for place in places.iter_mut() {
-        *place = value;
+        *place = make(value);
         value = value.wrapping_add(step);
     }
 }
 
-// Place i becomes number i, mod 2^16, as far as there are numbers.
-pub fn fill_halves(places: &mut [u16], numbers: &[u32])
-    ensures { EachIndex places.new (λ i. i < length numbers.now → slice_index places.new i ≡ slice_index numbers.now i % 65536) }
+// Place i becomes first + i * step, mod 2^32.
+pub fn fill(places: &mut [u32], first: u32, step: u32)
+    ensures { EachIndex places.new (λ i. slice_index places.new i ≡ (first + i * step) % 2 ^ 32) }
 {
-    for (i, place) in places.iter_mut().enumerate() {
-        if numbers.len() <= i {
-            return;
-        }
-        *place = (numbers[i] % 65_536) as u16;
-    }
+    fill_by(places, first, step, |value| value)
+}
+
+// Place i becomes first + i * step, mod 2^16.
+pub fn fill_halves(places: &mut [u16], first: u32, step: u32)
+    ensures { EachIndex places.new (λ i. slice_index places.new i ≡ (first + i * step) % 65536) }
+{
+    fill_by(places, first, step, |value| (value % 65_536) as u16)
 }
 
 // Place i becomes 7,000,000,000 + i.
@@ -69,22 +70,36 @@ fn with_value(sum: u64, value: u64) -> u64
     (sum % TWO_TO_32 * 31 + value % 4_294_967_291) % TWO_TO_32
 }
 
-pub fn working_sum(working: &[u64]) -> u64
-    ensures { result ≡ checksum working.now }
+// The checksum of values of any width.
+pub fn checksum<T: Copy + Into<u64>>(values: &[T]) -> u64
+    ensures { (number : T → ℕ) → ((x : T) (n : ℕ) → T.converts x n → n ≡ number x) → result ≡ checksum (map number values.now) }
 {
-    let mut sum = 0;
-    for value in working {
-        sum = with_value(sum, *value);
-    }
-    sum
+    values
+        .iter()
+        .fold(0, |sum, value| with_value(sum, (*value).into()))
 }
 
-pub fn list_sum(list: &[u32]) -> u64
-    ensures { result ≡ checksum list.now }
-{
-    let mut sum = 0;
-    for value in list {
-        sum = with_value(sum, u64::from(*value));
+#[cfg(test)]
+mod tests {
+    use super::*;
+
+    #[test]
+    fn sums_values_of_any_width(rt: HostRuntime) {
+        assert_eq!(rt; checksum(&[1u32, 2]), 33);
+        assert_eq!(rt; checksum(&[1u16, 2]), 33);
+        assert_eq!(rt; checksum(&[4_294_967_296u64]), 5);
     }
-    sum
+
+    #[test]
+    fn fills_places(rt: HostRuntime) {
+        let mut numbers = [0u32; 3];
+        fill(&mut numbers, u32::MAX, 2);
+        assert_eq!(rt; numbers, [u32::MAX, 1, 3]);
+        let mut halves = [0u16; 2];
+        fill_halves(&mut halves, 70_000, 1);
+        assert_eq!(rt; halves, [4_464, 4_465]);
+        let mut working = [0u64; 2];
+        fill_working(&mut working);
+        assert_eq!(rt; working, [7_000_000_000, 7_000_000_001]);
+    }
 }

@@ -1,37 +1,28 @@
 -- A step applied to a list: from what the lower crates promise.
 use mathlib.Core.Path.{◌≡◌, refl, sym, ◌∙◌}
-use mathlib.Core.List.{List, [], ◌∷◌, map, map-id, map-map}
-use Prim.Native.Nat.{ℕ, zero, suc, ◌+◌, ◌≤◌, ◌<◌}
+use mathlib.Core.List.{List, ◌∷◌, map, map-id, map-map}
+use Prim.Native.Nat.{ℕ, suc, ◌+◌, ◌≤◌, ◌<◌}
 use native.Mathlib.Numerals.{add-one}
 use native.Mathlib.Omega.{arith}
 use lib.ListN.{length, get_or, drop, length-map, drop_of_length-le}
+use Rattle.std.proofs.lemmas.List.{get_or-map}
 use Rattle.functions.specs.Words.{EachWithin}
-use Rattle.functions.specs.Families.{family_image, family_scale}
 use Rattle.functions.specs.Promise.{StepPromise}
 use Rattle.tables.specs.Table.{entry, table_scale}
-use Rattle.fields.specs.Parts.{Step, on_family, on_table}
+use Rattle.fields.specs.Parts.{Step, on_table}
 use Rattle.chains.specs.Chain.{step_image, step_scale, chain_image, chain_scale, ChainAccepted}
 use Rattle.chains.specs.Apply.{Appliable, Applied, ChainAppliable, ChainApplied}
 use Rattle.chains.proofs.Chains.{step_promise}
-
-pub family_applied : (c family p q : ℕ) (xs ys : List ℕ) (d : ℕ) → d ≡ family_scale c family p q → ys ≡ map (family_image c family p q) xs → Applied c (on_family family p q) xs d ys
-unfolding step_scale step_image
-family_applied c family p q xs ys d scaled mapped = record { scale_is = scaled; images_are = mapped }
 
 pub table_applied : (c : ℕ) (t xs ys : List ℕ) (d : ℕ) → (d ≡ table_scale t) × (ys ≡ map (entry t) xs) → Applied c (on_table t) xs d ys
 unfolding step_scale step_image
 table_applied c t xs ys d e = record { scale_is = e.0; images_are = e.1 }
 
-image_at : (f : ℕ → ℕ) (xs : List ℕ) (i : ℕ) → i < length xs → get_or (map f xs) i 0 ≡ f (get_or xs i 0)
-image_at f [] i l = absurd (omega arith)
-image_at f (x ∷ xs) zero l = refl
-image_at f (x ∷ xs) (suc i) l = image_at f xs i (omega arith)
-
 -- the images of sizes within the capacity are within the scale
 pub images_within : {f : ℕ → ℕ} {c d : ℕ} → StepPromise f c d → (xs : List ℕ) → EachWithin c xs → EachWithin d (map f xs)
 images_within {f} promise xs within i l =
     let inside : i < length xs = omega (arith, length-map xs f) in
-    rw (image_at f xs i inside) (promise.image_within_scale (get_or xs i 0) (within i inside))
+    rw (get_or-map f xs i 0 0 inside) (promise.image_within_scale (get_or xs i 0) (within i inside))
 
 -- the images after i steps of an accepted chain, and what is left to do
 pub record Through (c : ℕ) (S : List Step) (old images : List ℕ) (present i : ℕ) : Type 0 where

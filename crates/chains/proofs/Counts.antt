@@ -1,14 +1,21 @@
--- The counts of n sizes: as many as sizes, and each where it is read.
+-- Numbers in whole bytes, and the counts of n sizes: as many as sizes, and each where it is read.
 use mathlib.Core.Path.{◌≡◌, refl, ap, sym, ◌∙◌}
 use mathlib.Core.List.{List, [], ◌∷◌}
 use mathlib.Core.Logic.{inl, inr}
-use Prim.Native.Nat.{ℕ, ◌*◌, ◌<◌}
+use Prim.Native.Nat.{ℕ, ◌*◌, ◌/◌, ◌%◌, ◌<◌}
 use native.Mathlib.Omega.{arith}
 use lib.ListN.{length, get_or, replicate, length-replicate, get_or-replicate}
-use Rattle.fields.specs.Bytes.{halfword, halfwords}
+use Rattle.fields.specs.Bytes.{halfword, word, halfwords, words}
 use Rattle.fields.specs.Parts.{counts_for}
-use Rattle.fields.proofs.Decoding.{halfwords_are}
+use Rattle.fields.proofs.Decoding.{Numbers, halfwords_are, words_are}
 use Rattle.chains.specs.Sizes.{NoneOrEach}
+
+-- whole numbers, as many as their bytes hold
+pub whole_halfwords : (bytes : List ℕ) → length bytes % 2 ≡ 0 → Numbers halfword 2 (length bytes / 2) bytes (halfwords bytes)
+whole_halfwords bytes even = halfwords_are _ _ (omega (arith, even))
+
+pub whole_words : (bytes : List ℕ) → length bytes % 4 ≡ 0 → Numbers word 4 (length bytes / 4) bytes (words bytes)
+whole_words bytes whole = words_are _ _ (omega (arith, whole))
 
 for_none : (given : List ℕ) (n : ℕ) → length given ≡ 0 → counts_for given n ≡ replicate n 1
 unfolding counts_for

@@ -17,7 +17,7 @@ use Rattle.fields.proofs.Said.{three}
 use Rattle.chains.specs.Chain.{contents_refusal, step_scale, step_refusal, chain_scale, ChainAccepted, TablesPass}
 use Rattle.chains.specs.Apply.{ChainAppliable}
 use Rattle.chains.specs.Sizes.{sizes_within, counts_positive, list_refusal}
-use Rattle.chains.specs.Judge.{step_list, Refusal, plain, judge_chain, judge_list, step_entries, entries_at, StepOvershoots}
+use Rattle.chains.specs.Judge.{step_list, Judgement, plain, judge_chain, judge_list, step_entries, entries_at, StepOvershoots}
 use Rattle.chains.proofs.Chains.{told_by_entries, table_accepted}
 use Rattle.chains.proofs.SizeTests.{sizes_most, given_positive}
 
@@ -84,10 +84,10 @@ behind_one c s steps (suc place) list l o =
     record { of_present_capacity = rw behind (rw before at o.of_present_capacity); overshoots = rw behind (rw before at o.overshoots) }
 
 -- 11 of a chain from c on, behind k steps
-abbrev Over : ℕ → ℕ → List Step → Refusal → Type 0
+abbrev Over : ℕ → ℕ → List Step → Judgement → Type 0
 Over c k steps r = r.number ≡ 11 → (k < r.step) × StepOvershoots c steps (r.step - k) r.list
 
-over_later : (c k : ℕ) (s : Step) (steps : List Step) (r : Refusal) → Over (step_scale c s) (suc k) steps r → Over c k (s ∷ steps) r
+over_later : (c k : ℕ) (s : Step) (steps : List Step) (r : Judgement) → Over (step_scale c s) (suc k) steps r → Over c k (s ∷ steps) r
 over_later c k s steps r over eleven =
     let later = over eleven in
     let place : r.step - k ≡ suc (r.step - suc k) = omega (arith, later.0) in
@@ -128,7 +128,7 @@ module _ (least c : ℕ) (sizes counts : List ℕ) (divided : Bool) (S : List St
   list_passed e = rw (eq-eqb _ 0 e)
 
   -- what holds of a refusal of 1, 17, 22 or 23, and of one in a step, holds of a list's
-  list_judged : (P : Refusal → Type 0) → ((n : ℕ) → n ≡ list_refusal least c sizes counts divided → (n ≡ 0 → ⊥) → P (plain n)) → (list_refusal least c sizes counts divided ≡ 0 → P (judge_chain c 0 S)) → P (judge_list least c sizes counts divided S)
+  list_judged : (P : Judgement → Type 0) → ((n : ℕ) → n ≡ list_refusal least c sizes counts divided → (n ≡ 0 → ⊥) → P (plain n)) → (list_refusal least c sizes counts divided ≡ 0 → P (judge_chain c 0 S)) → P (judge_list least c sizes counts divided S)
   list_judged P outside inside =
       ⊎_elim
       (λ none. rw (list_passed none) (inside none))

@@ -1,43 +1,66 @@
 -- A step judged: from what the lower crates answer.
 use mathlib.Core.Path.{◌≡◌, refl, ap, sym, ◌∙◌}
-use mathlib.Core.Bool.{Bool, true, false, cond}
+use mathlib.Core.Bool.{Bool, true, false, cond, not}
 use mathlib.Core.List.{List, [], ◌++◌}
-use Prim.Native.Nat.{ℕ, ◌-◌, ◌*◌, ◌≤◌}
+use Prim.Native.Nat.{ℕ, ◌-◌, ◌*◌, ◌/◌, ◌%◌, ◌≤◌}
 use native.Mathlib.Omega.{arith}
-use borrow.Author.Tests.{eq-eqb, ne_eqb}
-use lib.Dec.{eqb}
+use borrow.Author.Tests.{le-ltb, eq-eqb}
+use lib.Dec.{ltb, eqb}
 use lib.ListN.{length, get_or, drop}
-use Rattle.functions.specs.Image.{family_answer}
-use Rattle.functions.specs.declared.FamilyAnswer.{FamilyAnswer}
-use Rattle.functions.proofs.Answers.{family_answer_is}
-use Rattle.tables.specs.Table.{table_capacity, table_scale, counterexample}
-use Rattle.tables.specs.Check.{table_refusal, table_answer, list_after}
+use Rattle.std.specs.Prelude.{Ok, Err}
+use Rattle.refusals.specs.Number.{number_of}
+use Rattle.refusals.specs.declared.Refusal.{Refusal}
+use Rattle.refusals.specs.declared.Refusal.TheVariants.{TableCapacity}
+use Rattle.functions.specs.Families.{family_scale}
+use Rattle.functions.specs.Image.{family_refusal}
+use Rattle.tables.specs.Table.{entry, table_capacity, table_scale, best, counterexample}
+use Rattle.tables.specs.Check.{most_entries, within_limit, form_refusal, entries_refusal, length_refusal, table_refusal, table_answer, list_after}
 use Rattle.tables.specs.declared.TableAnswer.{TableAnswer}
 use Rattle.tables.proofs.Entries.{capacity_is, scale_is_last}
-use Rattle.fields.specs.Bytes.{word, words}
-use Rattle.fields.proofs.Decoding.{words_length, word_of}
 use Rattle.tables.proofs.Outcome.{same_refusal, list_after_lem, answer_is}
+use Rattle.fields.specs.Bytes.{word, words}
 use Rattle.fields.specs.Parts.{on_family, on_table}
 use Rattle.chains.specs.Chain.{step_scale, contents_refusal, step_refusal}
-use Rattle.chains.specs.Judge.{step_list, step_answer, StepJudged}
-use Rattle.chains.specs.declared.StepAnswer.{StepAnswer}
+use Rattle.chains.specs.Judge.{step_list, StepJudged}
+use Rattle.chains.specs.declared.Refused.{Refused}
 use Rattle.chains.proofs.Chains.{another_first}
+use Rattle.chains.proofs.Counts.{whole_words}
 
-pub family_judged : (c family p q : ℕ) (r : FamilyAnswer) → r ≡ family_answer c family p q → record { number = r.number; scale = r.scale; length = 0 } ≡ step_answer c (on_family family p q)
-unfolding step_answer step_refusal step_scale step_list
-family_judged c family p q r e =
-    let is = e ∙ family_answer_is c family p q in
-    ap (λ (a : FamilyAnswer). record { number = a.number; scale = a.scale; length = 0 }) is
+-- a refusal that is told with no place and no list
+abbrev pub alone : Refusal → Refused
+alone refusal = record { refusal = refusal; row = 0; step = 0; length = 0 }
+
+-- a family step leaves the list buffer
+module _ (c family p q : ℕ) (l : List ℕ) where
+  pub family_refused : (refusal : Refusal) → number_of refusal ≡ family_refusal c family p q → StepJudged c (on_family family p q) l (Err (alone refusal)) l
+  unfolding step_refusal step_list
+  family_refused refusal is = record { told = record { number_is = is; row_is = refl; length_is = refl }; list_is = refl }
+
+  pub family_passes : family_refusal c family p q ≡ 0 → (d : ℕ) → d ≡ family_scale c family p q → StepJudged c (on_family family p q) l (Ok d) l
+  unfolding step_refusal step_scale step_list
+  family_passes none d is = record { told = (none, is); list_is = refl }
 
 -- a table at a capacity, its entries not looked at: another capacity is told first, and entries that passed before pass
 module _ (c : ℕ) (t l : List ℕ) where
-  pub another_capacity : (table_capacity t ≡ c → ⊥) → StepJudged c (on_table t) l (record { number = 18; scale = 0; length = 0 }) l
-  unfolding step_answer step_list
-  another_capacity other = record { answer_is = rw (another_first c t other); list_is = refl }
+  pub another_capacity : (table_capacity t ≡ c → ⊥) → StepJudged c (on_table t) l (Err (alone TableCapacity)) l
+  unfolding step_list
+  another_capacity other =
+      let told = another_first c t other in
+      record { told = record { number_is = sym told; row_is = refl; length_is = rw told }; list_is = rw told }
 
-  pub checked_before : table_capacity t ≡ c → contents_refusal (on_table t) ≡ 0 → (d : ℕ) → d ≡ table_scale t → StepJudged c (on_table t) l (record { number = 0; scale = d; length = 0 }) l
-  unfolding step_answer step_refusal step_scale step_list
-  checked_before same passed d e = record { answer_is = rw (eq-eqb (table_capacity t) c same, passed, e); list_is = refl }
+  pub checked_before : table_capacity t ≡ c → contents_refusal (on_table t) ≡ 0 → (d : ℕ) → d ≡ table_scale t → StepJudged c (on_table t) l (Ok d) l
+  unfolding step_refusal step_scale step_list
+  checked_before same passed d e =
+      let none = eq-eqb (table_capacity t) c same in
+      record { told = (rw (none, passed), e); list_is = rw (none, passed) }
+
+-- the numbers of a table that there is room for, by the tests one after the other
+numbers : (a b d over : Bool) (n : ℕ) → n ≡ cond (eqb (cond a 8 (cond b 9 (cond d 10 0))) 0) (cond over 11 0) (cond a 8 (cond b 9 (cond d 10 0))) → (n ≡ 0 → ⊥) → (8 ≤ n) × (n ≤ 11)
+numbers true b d over n is some = (omega (arith, is), omega (arith, is))
+numbers false true d over n is some = (omega (arith, is), omega (arith, is))
+numbers false false true over n is some = (omega (arith, is), omega (arith, is))
+numbers false false false true n is some = (omega (arith, is), omega (arith, is))
+numbers false false false false n is some = absurd (some is)
 
 -- the entries of a table checked, at its own capacity
 module _ (t w l : List ℕ) (room : length t ≤ length w) (list_room : table_capacity t ≤ length l) (r : TableAnswer) (answered : r ≡ table_answer t (length w) (length l)) (l' : List ℕ) (listed : l' ≡ list_after t w l) where
@@ -58,41 +81,42 @@ module _ (t w l : List ℕ) (room : length t ≤ length w) (list_room : table_ca
   unfolding step_refusal
   refusal_is = rw (eq-eqb (table_capacity t) (table_capacity t) refl) contents_is
 
-  pub entries_refused : (r.number ≡ 0 → ⊥) → StepJudged (table_capacity t) (on_table t) l (record { number = r.number; scale = 0; length = r.length }) l'
-  unfolding step_answer step_list
-  entries_refused some =
+  pub number_within : 2 ≤ length t → length t ≤ most_entries → (r.number ≡ 0 → ⊥) → (8 ≤ r.number) × (r.number ≤ 11)
+  unfolding table_refusal length_refusal entries_refusal form_refusal
+  number_within least most =
+      let list_long : length t - 1 ≤ length l = omega (arith, list_room, capacity_is t) in
+      numbers (not (eqb (entry t 0) 0)) (eqb (table_scale t) 0) (not (within_limit t)) (ltb (table_scale t) (best t (table_capacity t))) r.number
+      (rw (le-ltb (length t) 2 least, le-ltb most_entries (length t) most, le-ltb (length w) (length t) room, le-ltb (length l) (length t - 1) list_long) at (sym by_number))
+
+  pub entries_refused : (refusal : Refusal) → number_of refusal ≡ r.number → StepJudged (table_capacity t) (on_table t) l (Err (record { refusal = refusal; row = 0; step = 0; length = r.length })) l'
+  unfolding step_list
+  entries_refused refusal is =
       record {
-        answer_is = rw (refusal_is, ne_eqb r.number 0 some) (ap (λ (n : ℕ). record { number = r.number; scale = 0; length = n }) (length_is ∙ counted (eqb r.number 11)));
-        list_is = list_is ∙ written (eqb r.number 11) r.length length_is;
+        told = record { number_is = is ∙ sym refusal_is; row_is = refl; length_is = length_is ∙ rw refusal_is (counted (eqb r.number 11)) };
+        list_is = list_is ∙ rw refusal_is (written (eqb r.number 11));
       }
     where
       counted : (test : Bool) → cond test (length (counterexample t)) 0 ≡ length (cond test (counterexample t) [])
       counted true = refl
       counted false = refl
 
-      written : (test : Bool) (n : ℕ) → n ≡ cond test (length (counterexample t)) 0 → cond test (counterexample t ++ drop (length (counterexample t)) l) l ≡ cond test (counterexample t) [] ++ drop n l
-      written true n e = rw e
-      written false n e = rw e
+      written : (test : Bool) → cond test (counterexample t ++ drop (length (counterexample t)) l) l ≡ cond test (counterexample t) [] ++ drop (length (cond test (counterexample t) [])) l
+      written true = refl
+      written false = refl
 
-  pub entries_pass : r.number ≡ 0 → (d : ℕ) → d ≡ table_scale t → StepJudged (table_capacity t) (on_table t) l (record { number = 0; scale = d; length = 0 }) l'
+  pub entries_pass : r.number ≡ 0 → (d : ℕ) → d ≡ table_scale t → StepJudged (table_capacity t) (on_table t) l (Ok d) l'
   entries_pass none d e =
       let kept : l' ≡ l = list_is ∙ rw none in
       rw kept (checked_before (table_capacity t) t l refl (contents_is ∙ none) d e)
 
--- a family step leaves the list buffer
-pub family_step_lem : (c family p q : ℕ) (list : List ℕ) (r : StepAnswer) → r ≡ step_answer c (on_family family p q) → StepJudged c (on_family family p q) list r list
-unfolding step_answer step_list
-family_step_lem c family p q list r e =
-    let none : r.length ≡ 0 = ap (λ (a : StepAnswer). a.length) e in
-    record { answer_is = e; list_is = rw none }
-
 -- a table's capacity and scale, by the bytes of its entries
-module _ (n : ℕ) (bytes : List ℕ) (whole : length bytes ≡ 4 * n) where
-  pub capacity_of : table_capacity (words bytes) ≡ n - 1
-  capacity_of = capacity_is (words bytes) ∙ ap (λ (k : ℕ). k - 1) (words_length n bytes whole)
+module _ (bytes : List ℕ) (whole : length bytes % 4 ≡ 0) where
+  pub capacity_of : table_capacity (words bytes) ≡ length bytes / 4 - 1
+  capacity_of = capacity_is (words bytes) ∙ ap (λ (k : ℕ). k - 1) (whole_words bytes whole).count
 
-  pub scale_of : 2 ≤ n → word bytes (4 * (n - 1)) ≡ table_scale (words bytes)
-  scale_of least =
-      word_of n bytes whole (n - 1) (omega arith)
-      ∙ ap (λ (k : ℕ). get_or (words bytes) (k - 1) 0) (sym (words_length n bytes whole))
-      ∙ sym (scale_is_last (words bytes))
+  pub scale_of : 4 ≤ length bytes → (at : ℕ) → at ≡ 4 * (length bytes / 4 - 1) → word bytes at ≡ table_scale (words bytes)
+  scale_of least at is =
+      rw is
+      ((whole_words bytes whole).at (length bytes / 4 - 1) (omega arith)
+      ∙ ap (λ (k : ℕ). get_or (words bytes) (k - 1) 0) (sym (whole_words bytes whole).count)
+      ∙ sym (scale_is_last (words bytes)))

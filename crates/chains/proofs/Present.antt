@@ -1,31 +1,44 @@
 -- The steps of a job one after the other: the invariant of the loop that judges them, and of the loop that applies them.
-use mathlib.Core.Path.{◌≡◌, refl, ap, sym, ◌∙◌}
+use mathlib.Core.Path.{◌≡◌, refl, ap, ◌∙◌}
 use mathlib.Core.List.{List, [], ◌∷◌}
 use Prim.Native.Nat.{ℕ, suc, ◌+◌, ◌≤◌, ◌<◌}
 use native.Mathlib.Numerals.{add-one}
 use native.Mathlib.Omega.{arith}
 use borrow.Author.Tests.{eq-eqb, ne_eqb}
-use lib.ListN.{length, get_or, take, drop, get_or-map, drop_of_length-le}
+use lib.ListN.{length, get_or, take, drop, get_or-map, length-map, length-take, drop_of_length-le}
 use lib.Seq.{drop-cons, get_or-take}
+use Rattle.std.specs.Prelude.{Ok, Err}
+use Rattle.refusals.specs.Number.{number_of}
+use Rattle.refusals.specs.declared.Refusal.{Refusal}
+use Rattle.refusals.proofs.Numbers.{number_positive}
 use Rattle.fields.specs.Parts.{Step, on_family, on_table}
-use Rattle.fields.specs.Record.{no_step, step_in, steps_in, StepsWithin}
+use Rattle.fields.specs.Record.{step_in, StepWithin, steps_in, StepsWithin}
+use Rattle.fields.specs.declared.JobStep.{JobStep}
 use Rattle.fields.specs.declared.JobSteps.{JobSteps}
-use Rattle.fields.proofs.Filling.{steps_count}
 use Rattle.chains.specs.Chain.{step_scale, step_refusal}
-use Rattle.chains.specs.Judge.{step_list, step_answer, StepJudged, plain, judge_chain, verdict_of, list_by, Judged}
-use Rattle.chains.specs.declared.StepAnswer.{StepAnswer}
-use Rattle.chains.specs.declared.Verdict.{Verdict}
+use Rattle.chains.specs.Judge.{step_list, StepJudged, plain, judge_chain, list_by, Judged}
+use Rattle.chains.specs.declared.Refused.{Refused}
+use Rattle.chains.proofs.Judging.{alone}
 
-module _ (job : List ℕ) (steps : JobSteps) (h : StepsWithin job steps) where
-  -- the step at a place of the record, and those behind it
-  abbrev pub step-at : ℕ → Step
-  step-at i = step_in job (get_or steps.items i no_step)
+-- the step at a place of the record, and those behind it
+module _ (steps : JobSteps) (i : ℕ) (none : JobStep) (l : i < length (take steps.count steps.items)) where
+  abbrev pub step_at : JobStep
+  step_at = get_or (take steps.count steps.items) i none
 
-  pub steps_at : (i : ℕ) → i < steps.count → drop i (steps_in job steps) ≡ step-at i ∷ drop (suc i) (steps_in job steps)
+  pub steps_at : drop i (steps_in steps) ≡ step_in step_at ∷ drop (suc i) (steps_in steps)
   unfolding steps_in
-  steps_at i l =
-      drop-cons (steps_in job steps) i (step_in job no_step) (omega (arith, steps_count job steps h))
-      ∙ ap (λ (s : Step). s ∷ drop (suc i) (steps_in job steps)) (get_or-map (step_in job) (take steps.count steps.items) i no_step ∙ ap (step_in job) (get_or-take steps.count steps.items i no_step l))
+  steps_at =
+      drop-cons (steps_in steps) i (step_in none) (omega (arith, length-map (take steps.count steps.items) step_in))
+      ∙ ap (λ (s : Step). s ∷ drop (suc i) (steps_in steps)) (get_or-map step_in (take steps.count steps.items) i none)
+
+  pub step_within : StepsWithin steps → StepWithin step_at
+  step_within h =
+      let inside : i < steps.count = omega (arith, length-take steps.count steps.items) in
+      rw (get_or-take steps.count steps.items i none inside) (h.each i none inside)
+
+pub steps_past : (steps : JobSteps) (i : ℕ) → length (take steps.count steps.items) ≤ i → length (steps_in steps) ≤ i
+unfolding steps_in
+steps_past steps i l = omega (arith, length-map (take steps.count steps.items) step_in)
 
 -- after i steps from the capacity c, the capacity is `present`, and those left decide
 pub Present : ℕ → List Step → ℕ → ℕ → Type 0
@@ -56,32 +69,29 @@ unfolding step_list
 no_list (on_family family p q) = refl
 no_list (on_table t) = refl
 
--- a step judged as `r`, with the list buffer from what it was
-module _ (c : ℕ) (S : List Step) (present i : ℕ) (p : Present c S present i) (s : Step) (here : drop i S ≡ s ∷ drop (suc i) S) (r : StepAnswer) (list list' : List ℕ) (j : StepJudged present s list r list') where
-  number_is : r.number ≡ step_refusal present s
-  unfolding step_answer
-  number_is = ap (λ (a : StepAnswer). a.number) j.answer_is
+-- a step judged, with the list buffer from what it was
+module _ (c : ℕ) (S : List Step) (present i : ℕ) (p : Present c S present i) (s : Step) (here : drop i S ≡ s ∷ drop (suc i) S) (list list' : List ℕ) where
+  pub loop_refused : (refused : Refused) → StepJudged present s list (Err refused) list' → {A : Type 0} → Judged {A = A} (judge_chain c 0 S) list (Err (record { refusal = refused.refusal; row = refused.row; step = i + 1; length = refused.length })) list'
+  unfolding list_by
+  loop_refused refused j =
+      let some : step_refusal present s ≡ 0 → ⊥ = λ none. omega (arith, number_positive refused.refusal, j.told.number_is) in
+      rw (present_refused c S present i p s here some)
+      (record {
+        told = record { number_is = j.told.number_is; row_is = j.told.row_is; step_is = add-one i; length_is = j.told.length_is };
+        list_is = j.list_is;
+      })
 
-  length_is : r.length ≡ length (step_list r.number s)
-  unfolding step_answer
-  length_is = ap (λ (a : StepAnswer). a.length) j.answer_is ∙ ap (λ (n : ℕ). length (step_list n s)) (sym number_is)
-
-  pub loop_refused : (r.number ≡ 0 → ⊥) → Judged (judge_chain c 0 S) list (record { number = r.number; row = 0; step = i + 1; length = r.length }) list'
-  unfolding verdict_of list_by
-  loop_refused some =
-      let v = present_refused c S present i p s here (λ e. some (number_is ∙ e)) ∙ ap (λ (n : ℕ). record { number = n; row = 0; step = suc i; list = step_list n s }) (sym number_is) in
-      record { verdict_is = rw (v, length_is, add-one); list_is = j.list_is ∙ rw (v, length_is) }
-
-  pub loop_next : r.number ≡ 0 → Present c S r.scale (i + 1) × (list' ≡ list)
-  unfolding step_answer
-  loop_next zero =
-      let fine = sym number_is ∙ zero in
-      let scale : r.scale ≡ step_scale present s = ap (λ (a : StepAnswer). a.scale) j.answer_is ∙ rw fine in
-      let empty = ap (λ (n : ℕ). step_list n s) zero ∙ no_list s in
-      let short = length_is ∙ ap length empty in
-      (rw scale (present_next c S present i p s here fine), j.list_is ∙ rw (empty, short))
+  pub loop_next : (scale : ℕ) → StepJudged present s list (Ok scale) list' → Present c S scale (i + 1) × (list' ≡ list)
+  loop_next scale j =
+      let fine = j.told.0 in
+      let empty = ap (λ (n : ℕ). step_list n s) fine ∙ no_list s in
+      (rw j.told.1 (present_next c S present i p s here fine), j.list_is ∙ rw empty)
 
 -- nothing is written where the refusal has no list
-pub judged_plain : (n : ℕ) (list : List ℕ) (v : Verdict) → v ≡ verdict_of (plain n) → Judged (plain n) list v list
+pub plain_refused : (n : ℕ) (list : List ℕ) (refusal : Refusal) → number_of refusal ≡ n → {A : Type 0} → Judged {A = A} (plain n) list (Err (alone refusal)) list
 unfolding plain list_by
-judged_plain n list v e = record { verdict_is = e; list_is = refl }
+plain_refused n list refusal is = record { told = record { number_is = is; row_is = refl; step_is = refl; length_is = refl }; list_is = refl }
+
+pub plain_passes : (list : List ℕ) {A : Type 0} (value : A) → Judged (plain 0) list (Ok value) list
+unfolding plain list_by
+plain_passes list value = record { told = refl; list_is = refl }

@@ -1,5 +1,5 @@
 -- Accepted steps applied to a list of sizes, document 01, "Jobs".
-use Rattle.std.specs.Prelude.{◌≡◌, List, map, ℕ, ◌-◌, ◌*◌, ◌≤◌, length}
+use Rattle.std.specs.Prelude.{◌≡◌, List, map, ℕ, ◌-◌, ◌/◌, ◌%◌, ◌≤◌, length}
 use Rattle.functions.specs.Words.{limit, EachWithin}
 use Rattle.fields.specs.Parts.{Step}
 use Rattle.chains.specs.Chain.{step_image, step_scale, step_refusal, chain_image, chain_scale, ChainAccepted}
@@ -16,10 +16,9 @@ pub record Applied (c : ℕ) (s : Step) (sizes : List ℕ) (scale : ℕ) (images
 
 -- the bytes of a table, and sizes within its capacity
 pub record EntriesFor (bytes sizes : List ℕ) : Type 0 where
-  pub count : ℕ
-  pub some : 1 ≤ count
-  pub whole : length bytes ≡ 4 * count
-  pub within : EachWithin (count - 1) sizes
+  pub some : 4 ≤ length bytes
+  pub whole : length bytes % 4 ≡ 0
+  pub within : EachWithin (length bytes / 4 - 1) sizes
 
 -- a chain applied: its scale, and the images
 pub record ChainApplied (c : ℕ) (steps : List Step) (sizes : List ℕ) (scale : ℕ) (images : List ℕ) : Type 0 where

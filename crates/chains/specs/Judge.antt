@@ -1,46 +1,46 @@
 -- Steps, and lists of sizes before them, judged in order, document 01, "Operations and what they refuse", Job.
-use Rattle.std.specs.Prelude.{Bool, cond, ◌≡◌, List, [], ◌∷◌, ◌++◌, ℕ, suc, ◌-◌, ◌≤◌, eqb, length, get_or, take, drop}
+use Rattle.std.specs.Prelude.{Bool, cond, ◌≡◌, Result, Ok, Err, List, [], ◌∷◌, ◌++◌, ℕ, suc, ◌-◌, eqb, length, get_or, take, drop}
+use Rattle.refusals.specs.Number.{number_of}
 use Rattle.tables.specs.Table.{table_capacity, counterexample}
-use Rattle.tables.specs.Check.{most_entries}
 use Rattle.tables.specs.Promise.{Overshoots}
 use Rattle.fields.specs.Parts.{Step, on_family, on_table}
 use Rattle.chains.specs.Chain.{step_scale, step_refusal, chain_scale}
 use Rattle.chains.specs.Sizes.{list_refusal}
-use Rattle.chains.specs.declared.StepAnswer.{StepAnswer}
-use Rattle.chains.specs.declared.Verdict.{Verdict}
+use Rattle.chains.specs.declared.Refused.{Refused}
 
 -- the list that goes with a refusal's number: at 11 the table's counterexample
 unfoldable pub step_list : ℕ → Step → List ℕ
 step_list number (on_family family p q) = []
 step_list number (on_table t) = cond (eqb number 11) (counterexample t) []
 
--- a step judged at a capacity: the number, the scale where it is 0, the list's length
-unfoldable pub step_answer : ℕ → Step → StepAnswer
-step_answer c s =
+-- what is told of a step: its scale where it is accepted, and else its number and the length of its list
+abbrev pub StepTold : ℕ → Step → Result ℕ Refused → Type 0
+StepTold c s (Ok scale) = (step_refusal c s ≡ 0) × (scale ≡ step_scale c s)
+StepTold c s (Err refused) =
     record {
-      number = step_refusal c s;
-      scale = cond (eqb (step_refusal c s) 0) (step_scale c s) 0;
-      length = length (step_list (step_refusal c s) s);
+      number_is : number_of refused.refusal ≡ step_refusal c s;
+      row_is : refused.row ≡ 0;
+      length_is : refused.length ≡ length (step_list (step_refusal c s) s);
     }
 
 -- the step judged, with the list buffer afterwards
-pub record StepJudged (c : ℕ) (s : Step) (list : List ℕ) (answer : StepAnswer) (list' : List ℕ) : Type 0 where
-  pub answer_is : answer ≡ step_answer c s
-  pub list_is : list' ≡ step_list answer.number s ++ drop answer.length list
+pub record StepJudged (c : ℕ) (s : Step) (list : List ℕ) (outcome : Result ℕ Refused) (list' : List ℕ) : Type 0 where
+  pub told : StepTold c s outcome
+  pub list_is : list' ≡ step_list (step_refusal c s) s ++ drop (length (step_list (step_refusal c s) s)) list
 
--- what refuses a job: a number, the row's and the step's place where one is refused, and its list
-pub record Refusal : Type 0 where
+-- how a job is judged: the number that refuses it or 0, the row's and the step's place where one is refused, and its list
+pub record Judgement : Type 0 where
   pub number : ℕ
   pub row : ℕ
   pub step : ℕ
   pub list : List ℕ
 
 -- a refusal outside of rows and steps; number 0 is none
-unfoldable pub plain : ℕ → Refusal
+unfoldable pub plain : ℕ → Judgement
 plain number = record { number = number; row = 0; step = 0; list = [] }
 
 -- the steps in order, behind k others: the first that is refused, or number 0
-unfoldable pub judge_chain : ℕ → ℕ → List Step → Refusal
+unfoldable pub judge_chain : ℕ → ℕ → List Step → Judgement
 judge_chain c k [] = plain 0
 judge_chain c k (s ∷ steps) =
     cond (eqb (step_refusal c s) 0)
@@ -48,7 +48,7 @@ judge_chain c k (s ∷ steps) =
     (record { number = step_refusal c s; row = 0; step = suc k; list = step_list (step_refusal c s) s })
 
 -- a list of sizes from `least` on with their counts at a capacity, its blocks right or not: 1, 17, 22, 23, and then the steps in order
-unfoldable pub judge_list : ℕ → ℕ → List ℕ → List ℕ → Bool → List Step → Refusal
+unfoldable pub judge_list : ℕ → ℕ → List ℕ → List ℕ → Bool → List Step → Judgement
 judge_list least c sizes counts divided steps =
     cond (eqb (list_refusal least c sizes counts divided) 0)
     (judge_chain c 0 steps)
@@ -67,19 +67,22 @@ pub record StepOvershoots (c : ℕ) (steps : List Step) (place : ℕ) (list : Li
   pub of_present_capacity : table_capacity (entries_at steps place) ≡ chain_scale c (take (place - 1) steps)
   pub overshoots : Overshoots (entries_at steps place) list
 
--- the verdict that a refusal is, and the list buffer with its list
-unfoldable pub verdict_of : Refusal → Verdict
-verdict_of r = record { number = r.number; row = r.row; step = r.step; length = length r.list }
+-- what is told of a judgement: nothing where its number is 0, and else all but the list, of which the length is told
+pub record RefusedAs (r : Judgement) (refused : Refused) : Type 0 where
+  pub number_is : number_of refused.refusal ≡ r.number
+  pub row_is : refused.row ≡ r.row
+  pub step_is : refused.step ≡ r.step
+  pub length_is : refused.length ≡ length r.list
 
-unfoldable pub list_by : Refusal → List ℕ → List ℕ
+abbrev pub Told : {A : Type 0} → Judgement → Result A Refused → Type 0
+Told r (Ok value) = r.number ≡ 0
+Told r (Err refused) = RefusedAs r refused
+
+-- the list buffer with the list of a judgement
+unfoldable pub list_by : Judgement → List ℕ → List ℕ
 list_by r list = r.list ++ drop (length r.list) list
 
 -- judged as `r`, with the list buffer afterwards
-pub record Judged (r : Refusal) (list : List ℕ) (verdict : Verdict) (list' : List ℕ) : Type 0 where
-  pub verdict_is : verdict ≡ verdict_of r
+pub record Judged {A : Type 0} (r : Judgement) (list : List ℕ) (outcome : Result A Refused) (list' : List ℕ) : Type 0 where
+  pub told : Told r outcome
   pub list_is : list' ≡ list_by r list
-
--- buffers that a table check of any length can use
-pub record CheckRoom (working list : List ℕ) : Type 0 where
-  pub for_bests : most_entries ≤ length working
-  pub for_list : most_entries - 1 ≤ length list

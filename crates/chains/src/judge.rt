@@ -1,216 +1,144 @@
-// The steps of a job, judged in order at the capacity that each gets, and lists of sizes before them.
-ghost use Rattle.std.specs.Prelude.{◌≡◌, true, ◌*◌, ◌≤◌, length};
+// The steps of a job, judged in order at the capacity that each gets, and lists of sizes before them. What
+// `StepsWithin` says of the steps stands in contracts: a ghost field cannot name the struct that it is in.
+ghost use Rattle.std.specs.Prelude.{◌≡◌, true, ◌*◌, ◌%◌, ◌≤◌, length};
+ghost use Rattle.refusals.specs.Number.{number_of};
 ghost use Rattle.tables.specs.Table.{table_capacity};
 ghost use Rattle.tables.specs.Check.{most_entries};
 ghost use Rattle.fields.specs.Bytes.{halfwords, words};
-ghost use Rattle.fields.specs.Parts.{on_family, on_table};
-ghost use Rattle.fields.specs.Record.{SpanWithin, span_bytes, HalfwordsWithin, halfword_bytes};
+ghost use Rattle.fields.specs.Parts.{on_table};
 ghost use Rattle.fields.specs.Record.{step_in, StepWithin, steps_in, StepsWithin};
 ghost use Rattle.chains.specs.Chain.{contents_refusal, TablesPass};
-ghost use Rattle.chains.specs.Judge.{
-  step_answer,
-  StepJudged,
-  plain,
-  judge_chain,
-  judge_list,
-  verdict_of,
-  Judged,
-  CheckRoom,
-};
+ghost use Rattle.chains.specs.Judge.{StepJudged, judge_chain, judge_list, Judged};
 
-use crate::{StepAnswer, Verdict, list};
+use crate::{LIST_PLACES, Refused, SizeList, list};
+use fields::{JobStep, JobSteps};
+use refusals::Refusal;
 
-fn judge_family_step(s: fields::JobStep, capacity: u64) -> StepAnswer
-    ensures { result ≡ step_answer capacity (on_family s.family s.p s.q) }
+// The refusal that a number of the table check stands for, where its buffers have room: the check is a
+// function for C, and answers with a number.
+fn refusal_of(number: u64) -> Refusal
+    requires { (8 ≤ number) × (number ≤ 11) }
+    ensures { number_of result ≡ number }
 {
-    let judged = functions::judge_family(capacity, s.family, s.p, s.q);
-    StepAnswer {
-        number: judged.number,
-        scale: judged.scale,
-        length: 0,
+    match number {
+        8 => Refusal::FirstEntry,
+        9 => Refusal::LastEntry,
+        10 => Refusal::EntryOverLimit,
+        _ => Refusal::Overshoots,
     }
 }
 
-fn refused_step(number: u64, length: u64) -> StepAnswer
-    ensures { result ≡ record { number = number; scale = 0; length = length } }
-{
-    StepAnswer {
-        number,
-        scale: 0,
-        length,
-    }
-}
-
-fn passed_step(scale: u64) -> StepAnswer
-    ensures { result ≡ record { number = 0; scale = scale; length = 0 } }
-{
-    StepAnswer {
-        number: 0,
-        scale,
-        length: 0,
-    }
-}
-
-// Entries are decoded into `table` and checked: the step judged at its table's own capacity.
-fn judge_entries_in(
-    bytes: &[u8],
-    table: &mut [u32],
-    working: &mut [u64],
-    list: &mut [u32],
-) -> StepAnswer
-    requires { (length bytes.now ≡ 4 * length table.old) × (2 ≤ length table.old)
-        × (length table.old ≤ most_entries) × CheckRoom working.old list.old }
-    ensures { StepJudged (table_capacity (words bytes.now)) (on_table (words bytes.now))
-        list.old result list.new }
-{
-    fields::words::decode_words(bytes, table);
-    let last = table.len() - 1;
-    let checked = tables::windowfloor_table_check(table, working, list);
-    let number = checked.number;
-    if number != 0 {
-        return refused_step(number, checked.length);
-    }
-    passed_step(table[last] as u64)
-}
-
+// The entries of a table decoded and checked: the step judged at its table's own capacity.
 fn judge_entries(
-    job: &[u8],
-    span: fields::Span,
-    working: &mut [u64],
-    list: &mut [u32],
-) -> StepAnswer
-    requires { SpanWithin job.now span × (2 ≤ span.n) × (span.n ≤ most_entries)
-        × CheckRoom working.old list.old }
-    ensures { StepJudged (table_capacity (words (span_bytes job.now span)))
-        (on_table (words (span_bytes job.now span)))
+    entries: &[u8],
+    working: &mut [u64; tables::MOST_ENTRIES],
+    list: &mut [u32; LIST_PLACES],
+) -> Result<u64, Refused>
+    requires { (length entries.now % 4 ≡ 0) × (8 ≤ length entries.now)
+        × (length entries.now ≤ 4 * most_entries) }
+    ensures { StepJudged (table_capacity (words entries.now)) (on_table (words entries.now))
         list.old result list.new }
 {
-    let n = span.n;
-    let mut table = [0u32; tables::MOST_ENTRIES];
-    judge_entries_in(
-        fields::span_bytes(job, span),
-        &mut table[..n],
-        working,
-        list,
-    )
+    let mut places = [0u32; tables::MOST_ENTRIES];
+    let table = &mut places[..entries.len() / 4];
+    fields::words::decode_words(entries, table);
+    let checked = tables::windowfloor_table_check(table, &mut working[..], &mut list[..]);
+    if checked.number != 0 {
+        return Err(Refused {
+            refusal: refusal_of(checked.number),
+            row: 0,
+            step: 0,
+            length: checked.length,
+        });
+    }
+    Ok(u64::from(table[table.len() - 1]))
 }
 
 // A table step at a capacity: 18 is told by the table's length, before anything of it is read or
 // written. Where `checked`, its entries are known to pass 8 to 11, and only the last one is read.
 fn judge_table_step(
-    job: &[u8],
-    span: fields::Span,
+    entries: &[u8],
     capacity: u64,
     checked: bool,
-    working: &mut [u64],
-    list: &mut [u32],
-) -> StepAnswer
-    requires { SpanWithin job.now span × (2 ≤ span.n) × (span.n ≤ most_entries)
-        × CheckRoom working.old list.old
-        × (checked ≡ true → contents_refusal (on_table (words (span_bytes job.now span))) ≡ 0) }
-    ensures judged { StepJudged capacity (on_table (words (span_bytes job.now span)))
+    working: &mut [u64; tables::MOST_ENTRIES],
+    list: &mut [u32; LIST_PLACES],
+) -> Result<u64, Refused>
+    requires { (length entries.now % 4 ≡ 0) × (8 ≤ length entries.now)
+        × (length entries.now ≤ 4 * most_entries)
+        × (checked ≡ true → contents_refusal (on_table (words entries.now)) ≡ 0) }
+    ensures judged { StepJudged capacity (on_table (words entries.now))
         list.old result list.new }
-    ensures untouched { (table_capacity (words (span_bytes job.now span)) ≡ capacity → ⊥)
+    ensures untouched { (table_capacity (words entries.now) ≡ capacity → ⊥)
         → working.new ≡ working.old }
 {
-    let top = span.n - 1;
+    let top = entries.len() / 4 - 1;
     if top as u64 != capacity {
-        return refused_step(18, 0);
+        return Err(Refused::from(Refusal::TableCapacity));
     }
     if checked {
-        return passed_step(fields::words::word_at(fields::span_bytes(job, span), 4 * top));
+        return Ok(fields::words::word_at(entries, 4 * top));
     }
-    judge_entries(job, span, working, list)
+    judge_entries(entries, working, list)
 }
 
-// A step at a capacity. Where `checked`, its table is known to pass 8 to 11.
+// A step at a capacity, and its scale. Where `checked`, its table is known to pass 8 to 11.
 fn judge_step(
-    job: &[u8],
-    s: fields::JobStep,
+    step: JobStep<'_>,
     capacity: u64,
     checked: bool,
-    working: &mut [u64],
-    list: &mut [u32],
-) -> StepAnswer
-    requires { StepWithin job.now s × CheckRoom working.old list.old
-        × (checked ≡ true → contents_refusal (step_in job.now s) ≡ 0) }
-    ensures { StepJudged capacity (step_in job.now s) list.old result list.new }
+    working: &mut [u64; tables::MOST_ENTRIES],
+    list: &mut [u32; LIST_PLACES],
+) -> Result<u64, Refused>
+    requires { StepWithin step × (checked ≡ true → contents_refusal (step_in step) ≡ 0) }
+    ensures { StepJudged capacity (step_in step.entry) list.old result list.new }
 {
-    if s.tag == 4 {
-        return judge_family_step(s, capacity);
+    if step.tag == 4 {
+        let accepted = functions::judge_family(capacity, step.family, step.p, step.q)?;
+        return Ok(accepted.scale);
     }
-    judge_table_step(job, s.table, capacity, checked, working, list)
-}
-
-// A refusal outside of rows and steps; number 0 is none.
-pub fn plain(number: u64) -> Verdict
-    ensures { result ≡ verdict_of (plain number) }
-{
-    Verdict {
-        number,
-        row: 0,
-        step: 0,
-        length: 0,
-    }
+    judge_table_step(step.entries, capacity, checked, working, list)
 }
 
 fn judge_steps(
-    job: &[u8],
-    steps: fields::JobSteps,
+    steps: JobSteps<'_>,
     capacity: u64,
     checked: bool,
-    working: &mut [u64],
-    list: &mut [u32],
-) -> Verdict
-    requires { StepsWithin job.now steps × CheckRoom working.old list.old
-        × (checked ≡ true → TablesPass (steps_in job.now steps)) }
-    ensures { Judged (judge_chain capacity 0 (steps_in job.now steps))
-        list.old result list.new }
+    working: &mut [u64; tables::MOST_ENTRIES],
+    list: &mut [u32; LIST_PLACES],
+) -> Result<(), Refused>
+    requires { StepsWithin steps × (checked ≡ true → TablesPass (steps_in steps)) }
+    ensures { Judged (judge_chain capacity 0 (steps_in steps.entry)) list.old result list.new }
 {
-    let items = steps.items;
-    let count = steps.count;
     let mut present = capacity;
-    let mut i = 0;
-    while i < count {
-        let s = items[i];
-        let judged = judge_step(job, s, present, checked, working, list);
-        if judged.number != 0 {
-            return Verdict {
-                number: judged.number,
-                row: 0,
-                step: (i + 1) as u64,
-                length: judged.length,
-            };
+    for (i, step) in steps.items[..steps.count].iter().enumerate() {
+        match judge_step(*step, present, checked, working, list) {
+            Ok(scale) => present = scale,
+            Err(refused) => {
+                return Err(Refused {
+                    step: (i + 1) as u64,
+                    ..refused
+                });
+            }
         }
-        present = judged.scale;
-        i += 1;
     }
-    plain(0)
+    Ok(())
 }
 
-// A list of sizes from `least` on with its counts, its blocks right or not: 1, 17, 22, 23, and then the
-// steps in order.
+// A list of sizes: 1, 17, 22, 23, and then the steps in order.
 pub fn judge_list(
-    job: &[u8],
-    steps: fields::JobSteps,
-    capacity: u64,
-    sizes: fields::Span,
-    counts: fields::Span,
-    divided: bool,
-    least: u64,
+    steps: JobSteps<'_>,
     checked: bool,
-    working: &mut [u64],
-    list: &mut [u32],
-) -> Verdict
-    requires { StepsWithin job.now steps × SpanWithin job.now sizes × HalfwordsWithin job.now counts
-        × CheckRoom working.old list.old × (checked ≡ true → TablesPass (steps_in job.now steps)) }
-    ensures { Judged (judge_list least capacity (words (span_bytes job.now sizes))
-        (halfwords (halfword_bytes job.now counts)) divided (steps_in job.now steps))
+    size_list: SizeList<'_>,
+    working: &mut [u64; tables::MOST_ENTRIES],
+    list: &mut [u32; LIST_PLACES],
+) -> Result<(), Refused>
+    requires { StepsWithin steps × (checked ≡ true → TablesPass (steps_in steps))
+        × (length size_list.sizes.now % 4 ≡ 0) × (length size_list.counts.now % 2 ≡ 0) }
+    ensures { Judged (judge_list size_list.entry.least size_list.entry.capacity
+        (words size_list.entry.sizes.now) (halfwords size_list.entry.counts.now)
+        size_list.entry.divided (steps_in steps.entry))
         list.old result list.new }
 {
-    let refusal = list::refuse_list(job, capacity, sizes, counts, divided, least);
-    if refusal != 0 {
-        return plain(refusal);
-    }
-    judge_steps(job, steps, capacity, checked, working, list)
+    list::refuse_list(size_list)?;
+    judge_steps(steps, size_list.capacity, checked, working, list)
 }

@@ -5,20 +5,43 @@ pub mod apply;
 pub mod judge;
 pub mod list;
 
-// A step judged: the number that refuses it, or 0 with its scale; at 11 the length of the list.
-#[derive(Clone, Copy)]
-pub struct StepAnswer {
-    pub number: u64,
-    pub scale: u64,
-    pub length: u64,
-}
+ghost use Rattle.std.specs.Prelude.{◌≡◌};
 
-// Steps, a list or rows judged: the number that refuses them or 0, the place of the row and of the
-// step that is refused, and the length of its list.
+use refusals::Refusal;
+
+// The places of a list that overshoots a table: no table has a longer one.
+pub const LIST_PLACES: usize = tables::MOST_ENTRIES - 1;
+
+// What refuses a job: the refusal, the places of the row and of the step where one is refused, else 0,
+// and the length of its list.
 #[derive(Clone, Copy)]
-pub struct Verdict {
-    pub number: u64,
+pub struct Refused {
+    pub refusal: Refusal,
     pub row: u64,
     pub step: u64,
     pub length: u64,
+}
+
+impl From<Refusal> for Refused {
+    ghost from_gives = { λ refusal refused. refused ≡ record { refusal = refusal; row = 0; step = 0; length = 0 } };
+
+    fn from(refusal: Refusal) -> Refused {
+        Refused {
+            refusal,
+            row: 0,
+            step: 0,
+            length: 0,
+        }
+    }
+}
+
+// A list of sizes from `least` on at a capacity, by the bytes of the sizes and of their counts; `divided`
+// says whether its blocks divide it, which a test told before and no value goes with.
+#[derive(Clone, Copy)]
+pub struct SizeList<'a> {
+    pub capacity: u64,
+    pub least: u64,
+    pub sizes: &'a [u8],
+    pub counts: &'a [u8],
+    pub divided: bool,
 }

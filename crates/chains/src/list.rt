@@ -1,75 +1,61 @@
 // Lists of sizes and their counts: tested where they lie, and summed.
-ghost use Rattle.std.specs.Prelude.{◌≡◌, ◌&&◌, ◌⊎◌, ℕ, ◌+◌, ◌*◌, ◌≤◌, ◌<◌, leb, length, get_or};
+ghost use Rattle.std.specs.Prelude.{◌≡◌, ◌⊎◌, ℕ, ◌+◌, ◌*◌, ◌%◌, ◌≤◌, ◌<◌, length, get_or};
+ghost use Rattle.refusals.specs.Number.{number_in};
 ghost use Rattle.functions.specs.Words.{most_count, weighted, EachWithin};
 ghost use Rattle.fields.specs.Bytes.{halfwords, words};
 ghost use Rattle.fields.specs.Parts.{counts_for};
 ghost use Rattle.fields.specs.Grammar.{most_sizes};
-ghost use Rattle.fields.specs.Record.{SpanWithin, span_bytes, HalfwordsWithin, halfword_bytes};
 ghost use Rattle.chains.specs.Sizes.{sizes_within, counts_positive, list_refusal, NoneOrEach};
 
-fn is_within(x: u64, least: u64, capacity: u64) -> bool
-    ensures { result ≡ (leb least x && leb x capacity) }
-{
-    least <= x && x <= capacity
-}
+use crate::SizeList;
+use refusals::Refusal;
 
-// Whether each of n numbers is from least to the capacity.
-fn sizes_within(bytes: &[u8], n: usize, least: u64, capacity: u64) -> bool
-    requires { length bytes.now ≡ 4 * n }
+// Whether each number is from least to the capacity.
+fn sizes_within(bytes: &[u8], least: u64, capacity: u64) -> bool
+    requires { length bytes.now % 4 ≡ 0 }
     ensures { result ≡ sizes_within least capacity (words bytes.now) }
 {
-    let mut i = 0;
-    while i < n {
-        let x = fields::words::word_at(bytes, 4 * i);
-        if !is_within(x, least, capacity) {
+    for i in 0..bytes.len() / 4 {
+        if !(least..=capacity).contains(&fields::words::word_at(bytes, 4 * i)) {
             return false;
         }
-        i += 1;
     }
     true
 }
 
-// Whether each of n numbers of two bytes is 1 or more.
-pub fn counts_positive(bytes: &[u8], n: usize) -> bool
-    requires { length bytes.now ≡ 2 * n }
+// Whether each number of two bytes is 1 or more.
+pub fn counts_positive(bytes: &[u8]) -> bool
+    requires { length bytes.now % 2 ≡ 0 }
     ensures { result ≡ counts_positive (halfwords bytes.now) }
 {
-    let mut i = 0;
-    while i < n {
+    for i in 0..bytes.len() / 2 {
         if fields::words::halfword_at(bytes, 2 * i) < 1 {
             return false;
         }
-        i += 1;
     }
     true
 }
 
-// Refusals 1, 17, 22 and 23; `divided` says whether the list's blocks are right.
-pub(crate) fn refuse_list(
-    job: &[u8],
-    capacity: u64,
-    sizes: fields::Span,
-    counts: fields::Span,
-    divided: bool,
-    least: u64,
-) -> u64
-    requires { SpanWithin job.now sizes × HalfwordsWithin job.now counts }
-    ensures { result ≡ list_refusal least capacity (words (span_bytes job.now sizes))
-        (halfwords (halfword_bytes job.now counts)) divided }
+// Refusals 1, 17, 22 and 23.
+#[tactic(auto, unfolding(crate::specs::Sizes::list_refusal))]
+pub(crate) fn refuse_list(list: SizeList<'_>) -> Result<(), Refusal>
+    requires { (length list.sizes.now % 4 ≡ 0) × (length list.counts.now % 2 ≡ 0) }
+    ensures { number_in result ≡ list_refusal list.entry.least list.entry.capacity
+        (words list.entry.sizes.now) (halfwords list.entry.counts.now) list.entry.divided }
 {
-    if !functions::capacity_fits(capacity) {
-        return 1;
+    if !functions::capacity_fits(list.capacity) {
+        return Err(Refusal::Capacity);
     }
-    if !sizes_within(fields::span_bytes(job, sizes), sizes.n, least, capacity) {
-        return 17;
+    if !sizes_within(list.sizes, list.least, list.capacity) {
+        return Err(Refusal::Size);
     }
-    if !counts_positive(fields::halfword_bytes(job, counts), counts.n) {
-        return 22;
+    if !counts_positive(list.counts) {
+        return Err(Refusal::Count);
     }
-    if !divided {
-        return 23;
+    if !list.divided {
+        return Err(Refusal::Blocks);
     }
-    0
+    Ok(())
 }
 
 // The count of the size at a place, or 1 where there are no counts.
@@ -78,7 +64,7 @@ fn count_at(bytes: &[u8], i: usize) -> u64
     ensures { (result ≤ most_count) × ((n : ℕ) → i < n → NoneOrEach bytes.now n
         → result ≡ get_or (counts_for (halfwords bytes.now) n) i 0) }
 {
-    if bytes.len() == 0 {
+    if bytes.is_empty() {
         return 1;
     }
     fields::words::halfword_at(bytes, 2 * i)
@@ -92,10 +78,8 @@ pub fn sum_of(bytes: &[u8], list: &[u32]) -> u64
         × ((most : ℕ) → EachWithin most list.now → result ≤ length list.now * (most_count * most)) }
 {
     let mut sum = 0;
-    let mut i = 0;
-    while i < list.len() {
-        sum += count_at(bytes, i) * list[i] as u64;
-        i += 1;
+    for (i, x) in list.iter().enumerate() {
+        sum += count_at(bytes, i) * u64::from(*x);
     }
     sum
 }

@@ -8,13 +8,23 @@ use native.Mathlib.Omega.{arith}
 use borrow.Rule.Slice.PartMut.{put_mid, same_len_mid}
 use lib.ListN.{length, get_or, take, drop, replicate, length-append, length-replicate, length-take, length-drop, get_or-replicate, get_or-append}
 use lib.Seq.{take_all, take_at, length-take-le, get_or-append-add}
+use Rattle.std.specs.List.{sum_by}
+use Rattle.std.proofs.lemmas.List.Sums.{sum_by-cons, sum_by_more}
 use Rattle.functions.specs.Words.{total, EachWithin}
 use Rattle.functions.proofs.Cases.{lt_or_ge}
 use Rattle.functions.proofs.Totals.{total_none, total_cons, total_first}
-use Rattle.blocks.proofs.Adding.{total_next}
 use Rattle.jobs.specs.Packing.{copies}
 use Rattle.exact.specs.Exact.{most_copies}
 use Rattle.exact.specs.Expand.{Expanded}
+
+-- the definition's sum is the library's
+pub total_is_sum : (xs : List ℕ) → total xs ≡ sum_by (λ x. x) xs
+unfolding total
+total_is_sum [] = refl
+total_is_sum (x ∷ xs) = ap (λ (rest : ℕ). x + rest) (total_is_sum xs) ∙ sym (sum_by-cons (λ n. n) x xs)
+
+pub total_at : (xs : List ℕ) (i : ℕ) → i < length xs → total (take (i + 1) xs) ≡ total (take i xs) + get_or xs i 0
+total_at xs i l = rw (total_is_sum (take (i + 1) xs), total_is_sum (take i xs)) (sum_by_more (λ n. n) xs i 0 l)
 
 pub copies_count : (counts sizes : List ℕ) → length counts ≡ length sizes → length (copies counts sizes) ≡ total counts
 unfolding copies
@@ -61,11 +71,11 @@ module _ (sizes counts : List ℕ) (one_each : length counts ≡ length sizes) (
   module _ (places : List ℕ) (n i : ℕ) (done : Expanding sizes counts places n i) where
     -- the copies of the next size have their places
     module _ (more : i < length sizes) where
-      total_more : n + get_or counts i 0 ≡ total (take (suc i) counts)
-      total_more = omega (arith, done.count_is, total_next counts i (omega arith))
+      total_more : n + get_or counts i 0 ≡ total (take (i + 1) counts)
+      total_more = omega (arith, done.count_is, total_at counts i (omega arith))
 
       pub places_there : n + get_or counts i 0 ≤ most_copies
-      places_there = omega (arith, total_more, total_first (suc i) counts)
+      places_there = omega (arith, total_more, total_first (i + 1) counts)
 
       pub expanding_next : (written : List ℕ) → (end : ℕ) → end ≡ n + get_or counts i 0 → written ≡ replicate (length (take (end - n) (drop n places))) (get_or sizes i 0) → Expanding sizes counts (put_mid n (end - n) places written) end (i + 1)
       expanding_next written end ends filled =
@@ -77,7 +87,7 @@ module _ (sizes counts : List ℕ) (one_each : length counts ≡ length sizes) (
           record {
             sizes_done = omega arith;
             ten_places = same_len_mid n (end - n) places written (many ∙ sym part) ∙ done.ten_places;
-            count_is = rw add-one (ends ∙ total_more);
+            count_is = ends ∙ total_more;
             copies_are =
                 ap (take end) (sym (append_assoc (take n places) written (drop (end - n) (drop n places))))
                 ∙ take_at (take n places ++ written) (drop (end - n) (drop n places)) end both

@@ -8,9 +8,9 @@ use native.Mathlib.Nat.{le_refl}
 use native.Mathlib.Omega.{arith}
 use borrow.Author.Count.{below_more}
 use borrow.Author.Tests.{eqb-true, eqb-false, eq-eqb}
-use borrow.Rule.Slice.PartMut.{put_mid, put_same, same_len_mid}
+use borrow.Rule.Slice.PartMut.{put_mid, put_same}
 use lib.Dec.{eqb}
-use lib.ListN.{length, get_or, take, drop, set, length-take, length-drop, length-set, drop_of_length-le}
+use lib.ListN.{length, get_or, take, drop, set, length-take, length-drop, drop_of_length-le}
 use lib.Seq.{take_all, set-set, set-get_or, get_or-set_same, get_or-set_other}
 use Rattle.functions.proofs.Cases.{lt_or_ge}
 use Rattle.jobs.specs.Packing.{load}
@@ -25,9 +25,6 @@ others_are x xs = take_all (suc (length xs) - 1) xs (omega arith)
 
 others_count : (xs : List ℕ) → length (others xs) ≡ length xs - 1
 others_count xs = omega (arith, length-take (length xs - 1) (drop 1 xs), length-drop 1 xs)
-
-others_placed : (sizes windows : List ℕ) → length sizes ≤ length windows → length (others sizes) ≤ length (others windows)
-others_placed sizes windows l = omega (arith, others_count sizes, others_count windows)
 
 -- the rooms with the first size put into bin b
 abbrev pub taken : List ℕ → List ℕ → ℕ → List ℕ
@@ -158,28 +155,6 @@ module _ (sizes : List ℕ) (used : ℕ) (rooms windows : List ℕ) (seek : Seek
   pub bin_there : b < length rooms
   bin_there = omega (arith, seek.few, seek.ten_rooms)
 
-  pub others_fewer : length (others sizes) < length sizes
-  others_fewer = omega (arith, others_count sizes)
-
-  pub seek_others : (v opened : ℕ) → opened ≡ max used (suc b) → Seek (others sizes) opened (set rooms b v) (others windows)
-  seek_others v opened is =
-      record {
-        few = omega (arith, is, seek.few, others_count sizes);
-        ten_rooms = length-set rooms b v ∙ seek.ten_rooms;
-        place_for_each = omega (arith, others_count sizes, others_count windows, seek.place_for_each);
-      }
-
-  -- the buffer stays as long as it is
-  module _ (windows' : List ℕ) (kept : length windows' ≡ length (others windows)) where
-    pub same_places : length (put_mid 1 (length windows - 1) windows windows') ≡ length windows
-    same_places = same_len_mid 1 (length windows - 1) windows windows' kept
-
-    pub same_length : (v : ℕ) → length (set (put_mid 1 (length windows - 1) windows windows') 0 v) ≡ length windows
-    same_length v = length-set (put_mid 1 (length windows - 1) windows windows') 0 v ∙ same_places
-
-    pub first_there : 0 < length (put_mid 1 (length windows - 1) windows windows')
-    first_there = omega (arith, same_places, seek.place_for_each)
-
   -- and how it ends
   module _ (least best opened : ℕ) (opened-is : opened ≡ max used (suc b)) (enough : get_or sizes 0 0 ≤ get_or rooms b 0) (r : ℕ) (rooms' windows' : List ℕ) (searched : Searched (others sizes) least best opened (taken sizes rooms b) (others windows) r rooms' windows') where
     rooms_back : set rooms' b (get_or rooms b 0) ≡ rooms
@@ -223,18 +198,7 @@ pub record Trying (sizes : List ℕ) (least best used : ℕ) (rooms windows : Li
   pub goes_on : used < r
 
 module _ (sizes : List ℕ) (least best used : ℕ) (rooms windows : List ℕ) where
-  pub trying_none : used < best → Trying sizes least best used rooms windows best rooms windows 0
-  trying_none l = record { improved = unchanged sizes best used rooms windows; none_before = inr (λ a less. absurd (omega arith)); bins_in_use = omega arith; goes_on = l }
-
   module _ (m : ℕ) (rooms₁ windows₁ : List ℕ) (b : ℕ) (trying : Trying sizes least best used rooms windows m rooms₁ windows₁ b) where
-    pub trying_seek : length windows₁ ≡ length windows → Seek sizes used rooms windows → Seek sizes used rooms₁ windows₁
-    trying_seek same seek =
-        record {
-          few = seek.few;
-          ten_rooms = ap length trying.improved.rooms_stay ∙ seek.ten_rooms;
-          place_for_each = omega (arith, seek.place_for_each);
-        }
-
     -- one bin more was tried
     module _ (r : ℕ) (rooms₂ windows₂ : List ℕ) (tried : TriedIn sizes least m used b rooms₁ windows₁ r rooms₂ windows₂) where
       both_improved : Improved sizes best used rooms windows r rooms₂ windows₂
@@ -247,17 +211,6 @@ module _ (sizes : List ℕ) (least best used : ℕ) (rooms windows : List ℕ) w
           both (inl few) here = inl (omega (arith, tried.improved.no_worse))
           both (inr before) (inl few) = inl few
           both (inr before) (inr here) = inr (below_more _ _ (λ a less k bins more fewer. before a less k bins more (omega (arith, tried.improved.no_worse))) here)
-
-      pub trying_next : b < used → used < r → Trying sizes least best used rooms windows r rooms₂ windows₂ (b + 1)
-      trying_next l more = record { improved = both_improved; none_before = none_so_far; bins_in_use = omega arith; goes_on = more }
-
-      -- no packing is into fewer: by the lower bound, or since so many are in use
-      pub enough_tried : (enough : ℕ) → enough ≡ max least used → r ≤ enough → Searched sizes least best used rooms windows r rooms₂ windows₂
-      enough_tried enough is few =
-          record {
-            improved = both_improved;
-            none_below = ⊎_elim (λ l. inr (λ k bins more less g h. omega arith)) (λ l. inl l) (lt_or_ge least r);
-          }
 
       -- the next bin was the last one to try
       pub last_tried : 0 < length sizes → b ≡ used → Searched sizes least best used rooms windows r rooms₂ windows₂

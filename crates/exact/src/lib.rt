@@ -6,7 +6,7 @@ mod search;
 
 ghost use Rattle.exact.specs.Exact.{ExactAnswered};
 
-// The answer: the number that refuses the list, or 0 with the fewest windows.
+// The answer, as C reads it: the number that refuses the list, or 0 with the fewest windows.
 #[repr(C)]
 #[derive(Clone, Copy)]
 pub struct ExactAnswer {
@@ -24,15 +24,20 @@ pub fn windowfloor_exact(
     ensures { ExactAnswered capacity sizes.now counts.now windows.old result
         windows.new }
 {
-    let number = list::refuse_exact(capacity, sizes, counts, windows.len());
-    if number != 0 {
-        return ExactAnswer { number, fewest: 0 };
-    }
-    let mut copies = [0u64; list::MOST_COPIES];
-    let n = list::expand(sizes, counts, &mut copies);
-    let fewest = search::fewest(capacity, &copies[..n], windows);
-    ExactAnswer {
-        number: 0,
-        fewest: fewest as u64,
+    match list::short(capacity, sizes, counts, windows.len()) {
+        Err(refusal) => ExactAnswer {
+            number: refusal.number(),
+            fewest: 0,
+        },
+        Ok(list) => {
+            // No heap: the copies stand in a fixed array, and a slice of it is handed on.
+            let mut copies = [0; list::MOST_COPIES];
+            let n = list::expand(list, &mut copies);
+            let fewest = search::fewest(capacity, &copies[..n], windows);
+            ExactAnswer {
+                number: 0,
+                fewest: fewest as u64,
+            }
+        }
     }
 }

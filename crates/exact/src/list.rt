@@ -1,70 +1,64 @@
 // The list: what refuses it, and its copies one after the other.
-ghost use Rattle.std.specs.Prelude.{◌≡◌, ◌≤◌, length, replicate};
+ghost use Rattle.std.specs.Prelude.{◌≡◌, ◌≤◌, length, IfOk};
+ghost use Rattle.refusals.specs.Number.{number_in};
 ghost use Rattle.functions.specs.Words.{total};
-ghost use Rattle.fields.specs.Grammar.{most_sizes};
 ghost use Rattle.exact.specs.Exact.{most_copies, exact_refusal};
 ghost use Rattle.exact.specs.Expand.{Expanded};
+
+use lists::CountedSizes;
+use refusals::Refusal;
 
 // The most copies in all, and the least places of the buffer for their windows.
 pub(crate) const MOST_COPIES: usize = 10;
 
 // How many copies there are in all.
-fn count_copies(counts: &[u16]) -> u64
-    requires { length counts.now ≤ most_sizes }
-    ensures { result ≡ total counts.now }
+#[tactic(auto, using(crate::proofs::Expanding::total_at), unfolding(functions::specs::Words::total))]
+fn count_copies(list: CountedSizes<'_>) -> u64
+    ensures { result ≡ total list.entry.counts.now }
 {
-    let mut sum = 0;
-    let mut i = 0;
-    while i < counts.len() {
-        sum += counts[i] as u64;
-        i += 1;
+    // No `sum` of a chain: over a struct's field the proof does not know that each count fits 16 bits.
+    let mut copies = 0;
+    for count in list.counts {
+        copies += u64::from(*count);
     }
-    sum
+    copies
 }
 
-// Refusals 1, those of the list, 24 and 7, in this order.
-pub(crate) fn refuse_exact(capacity: u64, sizes: &[u32], counts: &[u16], places: usize) -> u64
-    ensures { result ≡ exact_refusal capacity sizes.now counts.now places }
+// The list at a capacity with a place for each window: refusals 1, those of the list, 24 and 7, in this order.
+#[tactic(auto, unfolding(crate::specs::Exact::exact_refusal))]
+pub(crate) fn short<'a>(
+    capacity: u64,
+    sizes: &'a [u32],
+    counts: &'a [u16],
+    places: usize,
+) -> Result<CountedSizes<'a>, Refusal>
+    ensures number { number_in result ≡ exact_refusal capacity sizes.now counts.now places }
+    ensures list { IfOk result (λ l. (l.capacity ≡ capacity) × (l.sizes.now ≡ sizes.now)
+        × (l.counts.now ≡ counts.now)) }
 {
     if !functions::capacity_fits(capacity) {
-        return 1;
+        return Err(Refusal::Capacity);
     }
-    let number = lists::refuse_counted(capacity, sizes, counts);
-    if number != 0 {
-        return number;
-    }
-    if (MOST_COPIES as u64) < count_copies(counts) {
-        return 24;
+    let list = lists::counted(capacity, sizes, counts)?;
+    if (MOST_COPIES as u64) < count_copies(list) {
+        return Err(Refusal::TooManyCopies);
     }
     if places < MOST_COPIES {
-        return 7;
+        return Err(Refusal::BufferTooShort);
     }
-    0
-}
-
-fn fill(places: &mut [u64], size: u64)
-    ensures { places.new ≡ replicate (length places.old) size }
-{
-    let mut i = 0;
-    while i < places.len() {
-        places[i] = size;
-        i += 1;
-    }
+    Ok(list)
 }
 
 // Writes each size as often as its count to the first places, and answers how many there are.
-pub(crate) fn expand(sizes: &[u32], counts: &[u16], copies: &mut [u64]) -> usize
-    requires { (length counts.now ≡ length sizes.now) × (total counts.now ≤ most_copies)
-        × (length copies.old ≡ most_copies) }
-    ensures { Expanded sizes.now counts.now result copies.new }
+pub(crate) fn expand(list: CountedSizes<'_>, copies: &mut [u64]) -> usize
+    requires { (total list.counts.now ≤ most_copies) × (length copies.old ≡ most_copies) }
+    ensures { Expanded list.entry.sizes.now list.entry.counts.now result copies.new }
 {
     let mut n = 0;
-    let mut i = 0;
-    while i < sizes.len() {
-        let end = n + counts[i] as usize;
-        fill(&mut copies[n..end], sizes[i] as u64);
+    for (size, count) in list.sizes.iter().zip(list.counts) {
+        let end = n + usize::from(*count);
+        copies[n..end].fill(u64::from(*size));
         n = end;
-        i += 1;
     }
     n
 }

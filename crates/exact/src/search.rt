@@ -9,17 +9,10 @@ ghost use Rattle.exact.specs.Search.{Seek, TriedIn, Searched};
 
 use crate::list::MOST_COPIES;
 
-fn larger(a: usize, b: usize) -> usize
-    ensures { result ≡ max a b }
-{
-    if a < b {
-        return b;
-    }
-    a
-}
-
 // The fewest windows so far once the first copy was tried in window b, and the others behind it. What is
 // written then is a packing that is better than the best so far, if there is one.
+//
+// Of the arguments only `least` never changes, so a struct of them would be made anew at each call: no plainer.
 #[cycle(place_try_window)]
 fn try_window(
     copies: &[u64],
@@ -45,7 +38,7 @@ fn try_window(
         &copies[1..],
         least,
         best,
-        larger(used, b + 1),
+        used.max(b + 1),
         rooms,
         &mut windows[1..],
     );
@@ -74,13 +67,12 @@ fn place(
     ensures { Searched copies.now least best used rooms.old windows.old result
         rooms.new windows.new }
 {
-    if copies.len() == 0 {
+    if copies.is_empty() {
         return used;
     }
-    let enough = larger(least, used);
+    let enough = least.max(used);
     let mut fewest = best;
-    let mut b = 0;
-    while b < used {
+    for b in 0..used {
         let fewer = try_window(copies, least, fewest, used, b, rooms, windows);
         if fewer < fewest {
             if fewer <= enough {
@@ -88,7 +80,6 @@ fn place(
             }
             fewest = fewer;
         }
-        b += 1;
     }
     if fewest <= used + 1 {
         return fewest;
@@ -101,12 +92,7 @@ fn least_windows(capacity: u64, copies: &[u64]) -> usize
     requires { Measurable capacity copies.now }
     ensures { result ≡ (total copies.now up capacity) }
 {
-    let mut sum = 0;
-    let mut i = 0;
-    while i < copies.len() {
-        sum += copies[i];
-        i += 1;
-    }
+    let sum = copies.iter().sum();
     functions::round_up(sum, capacity) as usize
 }
 

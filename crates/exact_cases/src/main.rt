@@ -9,9 +9,12 @@
 // place is a copy's.
 #![tactic(auto)]
 
-ghost use Rattle.std.specs.Prelude.{◌<◌, ◌≤◌, IfOk, length};
+ghost use Rattle.std.specs.Prelude.{◌≤◌};
+ghost use Rattle.cases.specs.Onward.{PassesSome};
 
-use std::io::{self, BufWriter, Write};
+use decimal::Numbers;
+use exact::ExactAnswer;
+use std::io::{self, Write};
 
 // The most bytes of standard input that are read.
 const MOST_BYTES: usize = 262_144;
@@ -19,227 +22,118 @@ const MOST_BYTES: usize = 262_144;
 // The most places of the buffer for the windows.
 const MOST_PLACES: usize = 40;
 
-// How many copies the counts make, or the most if they make more.
-fn copies(counts: &[u16], most: usize) -> usize
-    ensures { result ≤ most }
-{
-    let mut total = 0;
-    for count in counts {
-        total += buffers::at_most(u64::from(*count), most - total);
-    }
-    total
-}
-
-// How many copies have a window, by the number of the answer.
-fn assigned(number: u64, counts: &[u16], most: usize) -> usize
-    ensures { result ≤ most }
-{
-    if 0 < number {
-        return 0;
-    }
-    copies(counts, most)
-}
-
-// The size of a copy, counted from 0; 0 if there are fewer.
-fn size_of(sizes: &[u32], counts: &[u16], copy: usize) -> u32 {
-    let mut before = copy;
-    for (size, count) in sizes.iter().zip(counts) {
-        let count = usize::from(*count);
-        if before < count {
-            return *size;
-        }
-        before -= count;
-    }
-    0
-}
-
-// The total of the copies that are in a window.
-fn load(sizes: &[u32], counts: &[u16], windows: &[u32], window: u32) -> u64 {
-    let mut total: u64 = 0;
-    for (i, of_copy) in windows.iter().enumerate() {
-        if *of_copy == window {
-            total = total.wrapping_add(u64::from(size_of(sizes, counts, i)));
-        }
-    }
-    total
-}
-
-// 1 if the copies of each window total at most the capacity, else 0.
-fn fits(capacity: u64, sizes: &[u32], counts: &[u16], windows: &[u32]) -> u64 {
-    for window in windows {
-        if capacity < load(sizes, counts, windows, *window) {
-            return 0;
-        }
-    }
-    1
-}
-
-fn holds(windows: &[u32], window: u32) -> bool {
-    windows.contains(&window)
-}
-
-// How many different numbers there are: places whose number does not come again.
-fn different(windows: &[u32]) -> u64 {
-    let mut found: u64 = 0;
-    for (i, window) in windows.iter().enumerate() {
-        if !holds(&windows[i + 1..], *window) {
-            found = found.wrapping_add(1);
-        }
-    }
-    found
-}
-
-fn not_below(windows: &[u32], fewest: u64) -> u64 {
-    let mut found: u64 = 0;
-    for window in windows {
-        if fewest <= u64::from(*window) {
-            found = found.wrapping_add(1);
-        }
-    }
-    found
-}
-
-fn write_number<W: Write>(out: &mut W, number: u64) -> io::Result<()> {
-    write!(out, " {number}")
-}
-
-// The windows are those of the copies.
-fn write_assignment<W: Write>(
-    out: &mut W,
+// Sizes that windows of a capacity take, and how many copies there are of each.
+#[derive(Clone, Copy)]
+struct List<'a> {
     capacity: u64,
-    sizes: &[u32],
-    counts: &[u16],
-    windows: &[u32],
-    answer: exact::ExactAnswer,
-) -> io::Result<()> {
-    write!(out, "{}", answer.number)?;
-    write_number(out, answer.fewest)?;
-    write_number(out, fits(capacity, sizes, counts, windows))?;
-    write_number(out, different(windows))?;
-    write_number(out, not_below(windows, answer.fewest))
+    sizes: &'a [u32],
+    counts: &'a [u16],
 }
 
+impl List<'_> {
+    // How many copies the counts make, or the most if they make more.
+    fn copies(&self, most: usize) -> usize
+        ensures { result ≤ most }
+    {
+        self.counts
+            .iter()
+            .map(|count| usize::from(*count))
+            .fold(0, usize::saturating_add)
+            .min(most)
+    }
+
+    // The size of a copy, counted from 0; 0 if there are fewer.
+    fn size_of(&self, copy: usize) -> u32 {
+        let mut before = copy;
+        for (size, count) in self.sizes.iter().zip(self.counts) {
+            let count = usize::from(*count);
+            if before < count {
+                return *size;
+            }
+            before -= count;
+        }
+        0
+    }
+
+    // The total of the copies that are in a window.
+    fn load(&self, windows: &[u32], window: u32) -> u64 {
+        windows
+            .iter()
+            .enumerate()
+            .filter(|(_, of_copy)| **of_copy == window)
+            .map(|(copy, _)| u64::from(self.size_of(copy)))
+            .fold(0, u64::saturating_add)
+    }
+
+    // Whether the copies of each window total at most the capacity.
+    fn fits(&self, windows: &[u32]) -> bool {
+        windows
+            .iter()
+            .all(|window| self.load(windows, *window) <= self.capacity)
+    }
+}
+
+// How many different numbers there are: places whose number did not come before.
+fn different(windows: &[u32]) -> usize {
+    windows
+        .iter()
+        .enumerate()
+        .filter(|(i, window)| !windows.iter().take(*i).any(|before| before == *window))
+        .count()
+}
+
+fn not_below(windows: &[u32], fewest: u64) -> usize {
+    windows
+        .iter()
+        .filter(|window| fewest <= u64::from(**window))
+        .count()
+}
+
+// The windows are those of the copies, and behind them what was lent besides.
 fn write_answer<W: Write>(
     out: &mut W,
-    capacity: u64,
-    sizes: &[u32],
-    counts: &[u16],
+    list: &List<'_>,
     windows: &[u32],
-    answer: exact::ExactAnswer,
+    answer: ExactAnswer,
 ) -> io::Result<()> {
-    let n = assigned(answer.number, counts, windows.len());
-    write_assignment(out, capacity, sizes, counts, &windows[..n], answer)?;
-    write_number(out, buffers::list_sum(&windows[n..]))?;
-    writeln!(out)
-}
-
-fn answer_list<W: Write>(
-    out: &mut W,
-    capacity: u64,
-    sizes: &[u32],
-    counts: &[u16],
-    windows: &mut [u32],
-) -> io::Result<()> {
-    let answer = exact::windowfloor_exact(capacity, sizes, counts, windows);
-    write_answer(out, capacity, sizes, counts, windows, answer)
-}
-
-// Fills the buffer with the numbers at a place and answers the place behind them.
-fn run_lent<W: Write>(
-    out: &mut W,
-    text: &[u8],
-    at: usize,
-    capacity: u64,
-    sizes: &[u32],
-    counts: &[u16],
-    windows: &mut [u32],
-) -> io::Result<usize>
-    ensures { IfOk result (λ next. at ≤ next) }
-{
-    let first = decimal::number_at(text, at);
-    let step = decimal::number_at(text, first.next);
-    let low = buffers::low_bits(first.value);
-    buffers::fill(windows, low, buffers::low_bits(step.value));
-    answer_list(out, capacity, sizes, counts, windows)?;
-    Ok(step.next)
-}
-
-// Makes the counts from j and the runs at a place, and runs with the buffer behind them.
-fn run_counted<W: Write>(
-    out: &mut W,
-    text: &[u8],
-    at: usize,
-    capacity: u64,
-    sizes: &[u32],
-    numbers: &mut [u32],
-    counts: &mut [u16],
-) -> io::Result<usize>
-    ensures { IfOk result (λ next. at ≤ next) }
-{
-    let end = runs::put_counts(text, at, numbers, counts);
-    let w = decimal::number_at(text, end);
-    let places = buffers::at_most(w.value, MOST_PLACES);
-    let mut windows = [0u32; MOST_PLACES];
-    run_lent(
+    let copies = if answer.number == 0 {
+        list.copies(windows.len())
+    } else {
+        0
+    };
+    let (windows, behind) = windows.split_at(copies);
+    let fits = u8::from(list.fits(windows));
+    write!(out, "{} {} {fits}", answer.number, answer.fewest)?;
+    write!(
         out,
-        text,
-        w.next,
+        " {} {}",
+        different(windows),
+        not_below(windows, answer.fewest)
+    )?;
+    writeln!(out, " {}", buffers::checksum(behind))
+}
+
+fn run_case<W: Write>(out: &mut W, numbers: &mut Numbers<'_>) -> io::Result<()>
+    ensures { PassesSome result numbers.old numbers.new }
+{
+    let capacity = numbers.next_number();
+    let mut sizes = [0u32; runs::MOST_NUMBERS];
+    let mut counts = [0u16; runs::MOST_NUMBERS];
+    let sizes = runs::put_list(numbers, &mut sizes);
+    let counts = runs::put_counts(numbers, &mut counts);
+    let [w, first, step] = numbers.next_numbers::<3>();
+    let mut windows = [0u32; MOST_PLACES];
+    let windows = &mut windows[..buffers::at_most(w, MOST_PLACES)];
+    buffers::fill(windows, buffers::low_bits(first), buffers::low_bits(step));
+    let answer = exact::windowfloor_exact(capacity, sizes, counts, windows);
+    let list = List {
         capacity,
         sizes,
         counts,
-        &mut windows[..places],
-    )
-}
-
-// Makes the sizes from k and the runs at a place, and runs with the counts behind them.
-fn run_list<W: Write>(
-    out: &mut W,
-    text: &[u8],
-    at: usize,
-    capacity: u64,
-    sizes: &mut [u32],
-) -> io::Result<usize>
-    ensures { IfOk result (λ next. at ≤ next) }
-{
-    let end = runs::put_list(text, at, sizes);
-    let m = decimal::number_at(text, end);
-    let count = buffers::at_most(m.value, runs::MOST_NUMBERS);
-    let mut numbers = [0u32; runs::MOST_NUMBERS];
-    let mut counts = [0u16; runs::MOST_NUMBERS];
-    run_counted(
-        out,
-        text,
-        m.next,
-        capacity,
-        sizes,
-        &mut numbers[..count],
-        &mut counts[..count],
-    )
-}
-
-// Runs the case at a place and answers the place behind it.
-fn run_case<W: Write>(out: &mut W, text: &[u8], at: usize) -> io::Result<usize>
-    ensures { at < length text.now → IfOk result (λ next. at < next) }
-{
-    let capacity = decimal::number_at(text, at);
-    let n = decimal::number_at(text, capacity.next);
-    let count = buffers::at_most(n.value, runs::MOST_NUMBERS);
-    let mut sizes = [0u32; runs::MOST_NUMBERS];
-    run_list(out, text, n.next, capacity.value, &mut sizes[..count])
-}
-
-fn run_cases<W: Write>(out: &mut W, text: &[u8]) -> io::Result<()> {
-    let mut at = 0;
-    while at < text.len() {
-        at = run_case(out, text, at)?;
-    }
-    Ok(())
+    };
+    write_answer(out, &list, windows, answer)
 }
 
 fn main(rt: HostRuntime) -> io::Result<()> {
-    let mut text = [0u8; MOST_BYTES];
-    let n = input::read_full(&mut rt.stdin(), &mut text)?;
-    let mut out = BufWriter::new(rt.alloc(), rt.stdout())?;
-    run_cases(&mut out, &text[..n])?;
-    out.flush()
+    cases::run::<MOST_BYTES, _>(rt, 1, run_case)
 }

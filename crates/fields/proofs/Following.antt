@@ -8,10 +8,11 @@ use native.Mathlib.Omega.{arith}
 use borrow.Author.Tests.{eqb-true, ltb-true, eq-eqb, ne_eqb, not-false}
 use lib.Dec.{ltb, eqb}
 use Rattle.functions.proofs.Cases.{lt_or_ge, not_refused}
+use Rattle.std.specs.Prelude.{None, Some}
+use Rattle.fields.specs.Bytes.{field_tag, field_length, field_within, header_of}
 use Rattle.fields.specs.Parts.{Field, value_of, blocks_there, is_step, step_of, chosen, job_steps, row_of, is_row, job_rows, last_tag_from, last_tag}
 use Rattle.fields.specs.Grammar.{most_steps, floor_kind, rows_kind, step_follows, row_follows, counts_follow, blocks_follow, may_follow, length_right}
 use Rattle.fields.specs.Reading.{header_refusal}
-use Rattle.fields.specs.declared.Header.{Header}
 
 -- no field has the tag t
 pub Absent : ℕ → List Field → Type 0
@@ -90,39 +91,22 @@ module _ (f : Field) where
   unfolding last_tag
   last_more fields = last_from 0 fields
 
--- a field's refusals in order: 13 whatever the tag and the length are, 14 whatever the length is
-module _ (h : Header) (kind last steps sizes : ℕ) where
-  pub thirteen : h.within ≡ false → header_refusal h kind last steps sizes ≡ 13
-  unfolding header_refusal
-  thirteen past_the_end = rw past_the_end
+-- the first field of a rest, which is not refused
+pub record Passed (rest : List ℕ) (kind last steps sizes : ℕ) : Type 0 where
+  pub within : field_within rest ≡ true
+  pub follows : may_follow kind last steps (field_tag rest) ≡ true
+  pub right : length_right sizes (field_tag rest) (field_length rest) ≡ true
 
-  module _ (within : h.within ≡ true) where
-    pub fourteen : may_follow kind last steps h.tag ≡ false → header_refusal h kind last steps sizes ≡ 14
-    unfolding header_refusal
-    fourteen out-of-place = rw (within, out-of-place)
-
-    module _ (in_place : may_follow kind last steps h.tag ≡ true) where
-      pub fifteen : length_right sizes h.tag h.length ≡ false → header_refusal h kind last steps sizes ≡ 15
-      unfolding header_refusal
-      fifteen wrong = rw (within, in_place, wrong)
-
-      pub fine_field : length_right sizes h.tag h.length ≡ true → header_refusal h kind last steps sizes ≡ 0
-      unfolding header_refusal
-      fine_field right = rw (within, in_place, right)
-
--- a field that is not refused
-pub record Passed (h : Header) (kind last steps sizes : ℕ) : Type 0 where
-  pub within : h.within ≡ true
-  pub follows : may_follow kind last steps h.tag ≡ true
-  pub right : length_right sizes h.tag h.length ≡ true
-
-pub passed : (h : Header) (kind last steps sizes : ℕ) → header_refusal h kind last steps sizes ≡ 0 → Passed h kind last steps sizes
-unfolding header_refusal
-passed h kind last steps sizes fine =
-    let one = not_refused (not h.within) 13 _ (omega arith) fine in
-    let two = not_refused (not (may_follow kind last steps h.tag)) 14 _ (omega arith) one.1 in
-    let three = not_refused (not (length_right sizes h.tag h.length)) 15 0 (omega arith) two.1 in
-    record { within = not-false _ one.0; follows = not-false _ two.0; right = not-false _ three.0 }
+pub passed : (rest : List ℕ) (kind last steps sizes : ℕ) → header_refusal (header_of rest) kind last steps sizes ≡ 0 → Passed rest kind last steps sizes
+unfolding header_refusal header_of
+passed rest kind last steps sizes = go (field_within rest) refl
+  where
+    go : (test : Bool) → field_within rest ≡ test → header_refusal (cond test (Some (record { tag = field_tag rest; length = field_length rest })) None) kind last steps sizes ≡ 0 → Passed rest kind last steps sizes
+    go false is fine = absurd (omega (arith, fine))
+    go true is fine =
+        let one = not_refused (not (may_follow kind last steps (field_tag rest))) 14 _ (omega arith) fine in
+        let two = not_refused (not (length_right sizes (field_tag rest) (field_length rest))) 15 0 (omega arith) one.1 in
+        record { within = is; follows = not-false _ one.0; right = not-false _ two.0 }
 
 -- one of two numbers
 either : (n a b : ℕ) → (eqb n a || eqb n b) ≡ true → (n ≡ a) ⊎ (n ≡ b)

@@ -9,21 +9,27 @@ use native.Mathlib.Omega.{arith}
 use borrow.Author.Tests.{eqb-true, eq-eqb, ne_eqb}
 use lib.ListN.{length, get_or, take, drop}
 use lib.Seq.{get_or-take, get_or-drop}
-use Rattle.fields.specs.Bytes.{header_bytes, field_tag, field_length, field_within, header_of, field_value, field_rest}
+use Rattle.std.specs.Prelude.{Option, None, Some}
+use Rattle.fields.specs.Bytes.{header_bytes, field_tag, field_length, header_of, field_value, field_rest}
 use Rattle.fields.specs.Parts.{Field, value_of, job_kind, job_sizes, job_steps, last_tag, last_tag_from}
 use Rattle.fields.specs.Grammar.{may_follow, may_end, length_right}
 use Rattle.fields.specs.Reading.{header_refusal, field_refusal, first_field, Fields, refused, complete, read_fields, job_fields, fields_of}
 use Rattle.fields.specs.declared.Header.{Header}
-use Rattle.fields.proofs.Headers.{header_within, header_is, within_facts, value_is}
+use Rattle.fields.proofs.Headers.{within_facts, value_is}
 use Rattle.fields.proofs.Following.{Passed, passed}
 use Rattle.fields.proofs.Filling.{kind_length}
 
--- three tests in a row
+-- three tests in a row, and two
 pub three : (P : ℕ → Type 0) (a b d : Bool) (n m k : ℕ) → P n → P m → P k → 0 < cond a n (cond b m (cond d k 0)) → P (cond a n (cond b m (cond d k 0)))
 three P true b d n m k one two last some = one
 three P false true d n m k one two last some = two
 three P false false true n m k one two last some = last
 three P false false false n m k one two last some = absurd (omega arith)
+
+two : (P : ℕ → Type 0) (a b : Bool) (n m : ℕ) → P n → P m → 0 < cond a n (cond b m 0) → P (cond a n (cond b m 0))
+two P true b n m one last some = one
+two P false true n m one last some = last
+two P false false n m one last some = absurd (omega arith)
 
 -- a turn of reading, by what is left and what refuses
 module _ (k : ℕ) (done : List Field) (rest : List ℕ) where
@@ -68,9 +74,11 @@ module _ (P : ℕ → Type 0) (thirteen : P 13) (fourteen : P 14) (fifteen : P 1
 
   field_said : (done : List Field) (rest : List ℕ) → 0 < field_refusal done rest → Said done (refused (field_refusal done rest))
   unfolding Said field_refusal header_refusal
-  field_said done rest =
-      let h = header_of rest in
-      three P (not h.within) (not (may_follow (job_kind done) (last_tag done) (length (job_steps done)) h.tag)) (not (length_right (length (job_sizes done)) h.tag h.length)) 13 14 15 thirteen fourteen fifteen
+  field_said done rest = go (header_of rest)
+    where
+      go : (h : Option Header) → 0 < header_refusal h (job_kind done) (last_tag done) (length (job_steps done)) (length (job_sizes done)) → P (header_refusal h (job_kind done) (last_tag done) (length (job_steps done)) (length (job_sizes done)))
+      go None some = thirteen
+      go (Some h) some = two P (not (may_follow (job_kind done) (last_tag done) (length (job_steps done)) h.tag)) (not (length_right (length (job_sizes done)) h.tag h.length)) 14 15 fourteen fifteen some
 
   said_on : (done : List Field) (f : Field) (r : Fields) → Said (done ++ (f ∷ [])) r → Said done r
   unfolding Said
@@ -121,21 +129,16 @@ module _ (job : List ℕ) (fields : List Field) (whole : job_fields job ≡ comp
           let never : ◌≡◌ {A = ℕ} 0 1 = cc in
           omega arith
 
-  first : Passed (header_of job) (job_kind []) (last_tag []) (length (job_steps [])) (length (job_sizes []))
+  first : Passed job (job_kind []) (last_tag []) (length (job_steps [])) (length (job_sizes []))
   unfolding field_refusal
-  first = passed (header_of job) (job_kind []) (last_tag []) (length (job_steps [])) (length (job_sizes [])) first_fine
-
-  within : field_within job ≡ true
-  within = sym (header_within job) ∙ first.within
+  first = passed job (job_kind []) (last_tag []) (length (job_steps [])) (length (job_sizes [])) first_fine
 
   tag_is : field_tag job ≡ 1
   unfolding may_follow last_tag last_tag_from
-  tag_is = sym (ap (λ (h : Header). h.tag) (header_is job within)) ∙ eqb-true (header_of job).tag 1 first.follows
+  tag_is = eqb-true (field_tag job) 1 first.follows
 
   length_is : field_length job ≡ 1
-  length_is =
-      let right : length_right (length (job_sizes [])) (field_tag job) (field_length job) ≡ true = rw (header_is job within) at first.right in
-      kind_length _ (field_length job) (rw tag_is at right)
+  length_is = kind_length _ (field_length job) (rw tag_is at first.right)
 
   value_kept : value_of 1 fields ≡ field_value job
   unfolding job_fields first_field
@@ -145,10 +148,10 @@ module _ (job : List ℕ) (fields : List Field) (whole : job_fields job ≡ comp
   kind_of : job_kind fields ≡ get_or job 3 0
   unfolding job_kind
   kind_of =
-      ap (λ (v : List ℕ). get_or v 0 0) (value_kept ∙ value_is job within ∙ ap (λ (k : ℕ). take k (drop header_bytes job)) length_is)
+      ap (λ (v : List ℕ). get_or v 0 0) (value_kept ∙ value_is job first.within ∙ ap (λ (k : ℕ). take k (drop header_bytes job)) length_is)
       ∙ get_or-take 1 (drop header_bytes job) 0 0 (omega arith)
       ∙ get_or-drop header_bytes job 0 0
 
   pub kind_read : KindRead job
   unfolding fields_of
-  kind_read = record { room = omega (arith, within_facts job within, length_is); kind_is = rw whole kind_of }
+  kind_read = record { room = omega (arith, within_facts job first.within, length_is); kind_is = rw whole kind_of }

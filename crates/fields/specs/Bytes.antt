@@ -1,5 +1,5 @@
 -- The bytes of a job, document 01, "Jobs": numbers of two and of four bytes, high byte first, and the first field of a job's rest.
-use Rattle.std.specs.Prelude.{Bool, true, false, cond, ◌&&◌, List, [], ◌∷◌, ℕ, zero, suc, ◌+◌, ◌*◌, ◌/◌, leb, length, get_or, take, drop}
+use Rattle.std.specs.Prelude.{Bool, cond, ◌&&◌, Option, None, Some, List, [], ◌∷◌, ℕ, zero, suc, ◌+◌, ◌*◌, ◌/◌, leb, length, get_or, take, drop}
 use Rattle.fields.specs.declared.Header.{Header}
 
 -- a header: a one-byte tag and a two-byte length
@@ -34,12 +34,9 @@ field_length rest = halfword rest 1
 unfoldable pub field_within : List ℕ → Bool
 field_within rest = leb header_bytes (length rest) && leb (header_bytes + field_length rest) (length rest)
 
--- its header, all 0 where header or value runs past the end
-unfoldable pub header_of : List ℕ → Header
-header_of rest =
-    cond (field_within rest)
-    (record { within = true; tag = field_tag rest; length = field_length rest })
-    (record { within = false; tag = 0; length = 0 })
+-- its header, none where header or value runs past the end
+unfoldable pub header_of : List ℕ → Option Header
+header_of rest = cond (field_within rest) (Some (record { tag = field_tag rest; length = field_length rest })) None
 
 -- its value, and the rest from the next field on: both empty where header or value runs past the end
 unfoldable pub field_value : List ℕ → List ℕ

@@ -1,16 +1,16 @@
 -- A job read field by field, document 01, "Operations and what they refuse", Job: refusals 13, 14 and 15.
-use Rattle.std.specs.Prelude.{cond, not, List, [], ◌∷◌, ◌++◌, ℕ, zero, suc, eqb, length}
+use Rattle.std.specs.Prelude.{cond, not, Option, None, Some, List, [], ◌∷◌, ◌++◌, ℕ, zero, suc, eqb, length}
 use Rattle.fields.specs.Bytes.{field_tag, header_of, field_value, field_rest}
 use Rattle.fields.specs.Parts.{Field, field_of, job_kind, job_sizes, job_steps, last_tag}
 use Rattle.fields.specs.Grammar.{may_follow, may_end, length_right}
 use Rattle.fields.specs.declared.Header.{Header}
 
 -- the number that refuses a field by its header, behind a last tag, a number of steps and a number of sizes, or 0
-unfoldable pub header_refusal : Header → ℕ → ℕ → ℕ → ℕ → ℕ
-header_refusal h kind last steps sizes =
-    cond (not h.within) 13
-    (cond (not (may_follow kind last steps h.tag)) 14
-    (cond (not (length_right sizes h.tag h.length)) 15 0))
+unfoldable pub header_refusal : Option Header → ℕ → ℕ → ℕ → ℕ → ℕ
+header_refusal None kind last steps sizes = 13
+header_refusal (Some h) kind last steps sizes =
+    cond (not (may_follow kind last steps h.tag)) 14
+    (cond (not (length_right sizes h.tag h.length)) 15 0)
 
 -- the number that refuses the first field of a rest, behind the fields read so far, or 0
 unfoldable pub field_refusal : List Field → List ℕ → ℕ

@@ -14,24 +14,26 @@ ghost use Rattle.fields.specs.Grammar.{
   length_right,
 };
 ghost use Rattle.fields.specs.Reading.{header_refusal};
+ghost use Rattle.fields.specs.Record.{TagOf};
+ghost use Rattle.refusals.specs.Number.{number_in};
 
 use crate::{FLOOR_KIND, Header, MOST_SIZES, MOST_STEPS, ROWS_KIND};
+use refusals::Refusal;
 
 // The bytes of the longest list of sizes and of the longest table.
 const MOST_LIST_BYTES: usize = 4 * MOST_SIZES;
 
 const MOST_TABLE_BYTES: usize = 4 * tables::MOST_ENTRIES;
 
+#[tactic(auto, unfolding(crate::specs::Parts::is_step))]
 fn is_step(tag: u8) -> bool
     ensures { result ≡ is_step tag }
 {
-    if tag == 4 {
-        return true;
-    }
-    tag == 5
+    tag == 4 || tag == 5
 }
 
 // A step behind fewer than eight.
+#[tactic(auto, unfolding(crate::specs::Grammar::step_follows))]
 fn step_follows(steps: usize, tag: u8) -> bool
     ensures { result ≡ step_follows steps tag }
 {
@@ -39,6 +41,7 @@ fn step_follows(steps: usize, tag: u8) -> bool
 }
 
 // A row behind no step.
+#[tactic(auto, unfolding(crate::specs::Grammar::row_follows, crate::specs::Parts::is_row))]
 fn row_follows(last: u8, tag: u8) -> bool
     ensures { result ≡ row_follows last tag }
 {
@@ -50,10 +53,7 @@ fn row_follows(last: u8, tag: u8) -> bool
 fn counts_follow(kind: u8, last: u8, tag: u8) -> bool
     ensures { result ≡ counts_follow kind last tag }
 {
-    if kind != FLOOR_KIND {
-        return false;
-    }
-    last == 3 && tag == 7
+    kind == FLOOR_KIND && last == 3 && tag == 7
 }
 
 // The sizes, or their counts.
@@ -68,10 +68,7 @@ fn is_list(tag: u8) -> bool
 fn blocks_follow(kind: u8, last: u8, tag: u8) -> bool
     ensures { result ≡ blocks_follow kind last tag }
 {
-    if !is_list(last) {
-        return false;
-    }
-    kind == FLOOR_KIND && tag == 8
+    is_list(last) && kind == FLOOR_KIND && tag == 8
 }
 
 // Counts or blocks.
@@ -82,16 +79,13 @@ fn list_follows(kind: u8, last: u8, tag: u8) -> bool
 }
 
 // Whether a tag may follow the last one, 0 before the first field.
+#[tactic(auto, unfolding(crate::specs::Grammar::may_follow))]
 fn may_follow(kind: u8, last: u8, steps: usize, tag: u8) -> bool
     ensures { result ≡ may_follow kind last steps tag }
 {
-    if last == 0 {
-        return tag == 1;
-    }
-    if kind == ROWS_KIND {
-        return row_follows(last, tag) || step_follows(steps, tag);
-    }
     match last {
+        0 => tag == 1,
+        _ if kind == ROWS_KIND => row_follows(last, tag) || step_follows(steps, tag),
         1 => tag == 2,
         2 => tag == 3,
         _ => list_follows(kind, last, tag) || step_follows(steps, tag),
@@ -114,6 +108,7 @@ fn table_length_right(n: usize) -> bool
 }
 
 // Whether a tag may have this length, behind so many sizes.
+#[tactic(auto, unfolding(crate::specs::Grammar::length_right))]
 fn length_right(sizes: usize, tag: u8, n: usize) -> bool
     requires { sizes ≤ most_sizes }
     ensures { result ≡ length_right sizes tag n }
@@ -130,19 +125,27 @@ fn length_right(sizes: usize, tag: u8, n: usize) -> bool
     }
 }
 
-// Refusals 13, 14 and 15 of a field, behind a last tag, a number of steps and a number of sizes.
-pub(crate) fn refuse_field(header: Header, kind: u8, last: u8, steps: usize, sizes: usize) -> u64
+// The tag of a field, or its refusal 13, 14 or 15, behind a last tag, a number of steps and a number of sizes.
+#[tactic(auto, unfolding(crate::specs::Reading::header_refusal))]
+pub(crate) fn accept_field(
+    header: Option<Header>,
+    kind: u8,
+    last: u8,
+    steps: usize,
+    sizes: usize,
+) -> Result<u8, Refusal>
     requires { sizes ≤ most_sizes }
-    ensures { result ≡ header_refusal header kind last steps sizes }
+    ensures refusal { number_in result ≡ header_refusal header kind last steps sizes }
+    ensures tag { TagOf header result }
 {
-    if !header.within {
-        return 13;
+    let Some(Header { tag, length }) = header else {
+        return Err(Refusal::FieldPastEnd);
+    };
+    if !may_follow(kind, last, steps, tag) {
+        return Err(Refusal::TagOutOfPlace);
     }
-    if !may_follow(kind, last, steps, header.tag) {
-        return 14;
+    if !length_right(sizes, tag, length) {
+        return Err(Refusal::FieldLength);
     }
-    if !length_right(sizes, header.tag, header.length) {
-        return 15;
-    }
-    0
+    Ok(tag)
 }

@@ -7,8 +7,9 @@ mod reader;
 pub mod rows;
 pub mod words;
 
-ghost use Rattle.std.specs.Prelude.{◌≡◌, ◌+◌, ◌≤◌, length, take, drop};
-ghost use Rattle.fields.specs.Record.{span_bytes, SpanWithin, halfword_bytes, HalfwordsWithin, JobReading};
+ghost use Rattle.fields.specs.Record.{JobReading};
+
+use refusals::Refusal;
 
 // The most bytes, sizes (in kind 3 coefficients of all rows), rows, blocks and steps of a job.
 pub const MOST_BYTES: usize = 65_535;
@@ -29,126 +30,72 @@ pub const ROWS_KIND: u8 = 3;
 // The bytes of a header: a tag and a two-byte length.
 const HEADER: usize = 3;
 
-// The header of a field, or one that is not within the rest of the job.
+// The header of a field. The tag is a byte and no enum: the grammar's tables have the format's numbers,
+// and an unknown one is refused by 14 like one out of place.
 #[derive(Clone, Copy)]
 pub struct Header {
-    pub within: bool,
     pub tag: u8,
     pub length: usize,
 }
 
-// A span of the job: where it starts, and how many numbers it has. Counts and blocks have two bytes
-// each, all others four.
+// A step of a job, a struct as the project's scope names it: by its tag family, p and q of a family step,
+// or the entries of a table.
 #[derive(Clone, Copy)]
-pub struct Span {
-    pub at: usize,
-    pub n: usize,
-}
-
-// A step of a job, by its tag: family, p and q of a family step, or where the entries of a table are.
-#[derive(Clone, Copy)]
-pub struct JobStep {
+pub struct JobStep<'a> {
     pub p: u64,
     pub q: u64,
-    pub table: Span,
+    pub entries: &'a [u8],
     pub tag: u8,
     pub family: u8,
 }
 
-// The steps of one job: eight places and their number.
+// The steps of one job, by value as the scope names it: eight places and their number.
 #[derive(Clone, Copy)]
-pub struct JobSteps {
-    pub items: [JobStep; MOST_STEPS],
+pub struct JobSteps<'a> {
+    pub items: [JobStep<'a>; MOST_STEPS],
     pub count: usize,
 }
 
 // The parts of a job: of its rows how many there are, and how many coefficients they have in all. Where
-// it has no tag 7, there are no counts; whether it has a tag 8 is told, since that may give no block.
+// it has no tag 7, there are no counts; a tag 8 may give no block.
 #[derive(Clone, Copy)]
-pub struct JobParts {
+pub struct JobParts<'a> {
     pub capacity: u64,
-    pub sizes: Span,
-    pub counts: Span,
-    pub blocks: Span,
-    pub steps: JobSteps,
+    pub sizes: &'a [u8],
+    pub counts: &'a [u8],
+    pub blocks: Option<&'a [u8]>,
+    pub steps: JobSteps<'a>,
     pub rows: usize,
     pub coefficients: usize,
+    // A byte and no enum: 16 refuses an unknown kind, and is told behind 13 to 15.
     pub kind: u8,
-    pub divided: bool,
 }
 
-// A row of a job: its right side, which is its capacity, where its coefficients are, and the place behind it.
+// A row of a job: its right side, which is its capacity, its coefficients, and the rest of the job behind it.
 #[derive(Clone, Copy)]
-pub struct RowPlace {
+pub struct JobRow<'a> {
     pub capacity: u64,
-    pub coefficients: Span,
-    pub next: usize,
-}
-
-// A job that was read, or the number that refuses a field.
-#[derive(Clone, Copy)]
-pub struct JobRead {
-    pub number: u64,
-    pub parts: JobParts,
-}
-
-fn unread(number: u64) -> JobRead
-    ensures { result.number ≡ number }
-{
-    JobRead {
-        number,
-        parts: parts::no_parts(),
-    }
+    pub coefficients: &'a [u8],
+    pub rest: &'a [u8],
 }
 
 // Reads all fields of a job, one after the other.
-pub fn read_job(job: &[u8]) -> JobRead
+pub fn read_job(job: &[u8]) -> Result<JobParts<'_>, Refusal>
     ensures { JobReading job.now result }
 {
     let mut parts = parts::no_parts();
     let mut last = 0;
-    let mut at = 0;
-    while at < job.len() {
-        let rest = &job[at..];
+    let mut rest = job;
+    while !rest.is_empty() {
         let header = reader::read_header(rest);
         let steps = parts.steps.count;
-        let number = grammar::refuse_field(header, parts.kind, last, steps, parts.sizes.n);
-        if number != 0 {
-            return unread(number);
-        }
-        let value = reader::field_value(rest, header);
-        let start = at + HEADER;
-        parts = parts::with_field(parts, header.tag, start, value);
-        last = header.tag;
-        at = start + value.len();
+        let tag = grammar::accept_field(header, parts.kind, last, steps, parts.sizes.len() / 4)?;
+        parts = parts::with_field(parts, tag, reader::field_value(rest, header));
+        last = tag;
+        rest = reader::field_rest(rest, header);
     }
     if !grammar::may_end(parts.kind, last) {
-        return unread(14);
+        return Err(Refusal::TagOutOfPlace);
     }
-    JobRead { number: 0, parts }
-}
-
-// n bytes from a place on.
-pub fn part_at(job: &[u8], at: usize, n: usize) -> &[u8]
-    requires { at + n ≤ length job.now }
-    ensures { result.now ≡ take n (drop at job.now) }
-{
-    let end = at + n;
-    &job[at..end]
-}
-
-// The bytes of a span of the job.
-pub fn span_bytes(job: &[u8], span: Span) -> &[u8]
-    requires { SpanWithin job.now span }
-    ensures { result.now ≡ span_bytes job.now span }
-{
-    part_at(job, span.at, 4 * span.n)
-}
-
-// The bytes of a span of numbers of two bytes.
-pub fn halfword_bytes(job: &[u8], span: Span) -> &[u8]
-    requires { HalfwordsWithin job.now span }
-    ensures { result.now ≡ halfword_bytes job.now span }
-{
-    part_at(job, span.at, 2 * span.n)
+    Ok(parts)
 }

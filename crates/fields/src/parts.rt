@@ -1,24 +1,24 @@
 // The record of a job's parts, filled field by field.
-ghost use Rattle.std.specs.Prelude.{◌≡◌, List, [], ℕ, ◌+◌, ◌<◌, length, set};
+ghost use Rattle.std.specs.Prelude.{◌≡◌, [], ℕ, ◌+◌, ◌<◌, length, get_or, set};
 ghost use Rattle.fields.specs.Grammar.{most_steps};
-ghost use Rattle.fields.specs.Record.{family_step, PartsOf, Fillable, Filled};
+ghost use Rattle.fields.specs.Bytes.{word, words};
+ghost use Rattle.fields.specs.Parts.{on_family, on_table};
+ghost use Rattle.fields.specs.Record.{step_in, StepWithin, PartsOf, Fillable, Filled};
 
-use crate::{JobParts, JobStep, JobSteps, MOST_STEPS, Span, words};
+use crate::{JobParts, JobStep, JobSteps, MOST_STEPS, words};
 
-pub(crate) fn no_parts() -> JobParts
-    ensures { (job : List ℕ) → PartsOf job [] result }
+#[tactic(auto, unfolding(crate::specs::Parts::value_of, crate::specs::Parts::blocks_there, crate::specs::Parts::job_kind, crate::specs::Parts::job_capacity, crate::specs::Parts::job_sizes, crate::specs::Parts::chosen, crate::specs::Parts::job_steps, crate::specs::Parts::job_rows, crate::specs::Parts::coefficient_count, crate::specs::Record::steps_in, crate::specs::Bytes::halfword, crate::specs::Bytes::word, crate::specs::Bytes::words, crate::specs::Bytes::numbers_from))]
+pub(crate) fn no_parts<'a>() -> JobParts<'a>
+    ensures { PartsOf [] result }
 {
-    let nowhere = Span { at: 0, n: 0 };
-    let none = table_step(nowhere);
     JobParts {
         kind: 0,
         capacity: 0,
-        sizes: nowhere,
-        counts: nowhere,
-        blocks: nowhere,
-        divided: false,
+        sizes: &[],
+        counts: &[],
+        blocks: None,
         steps: JobSteps {
-            items: [none; MOST_STEPS],
+            items: [table_step(&[]); MOST_STEPS],
             count: 0,
         },
         rows: 0,
@@ -26,34 +26,39 @@ pub(crate) fn no_parts() -> JobParts
     }
 }
 
-fn table_step(table: Span) -> JobStep
-    ensures { result ≡ record { tag = 5; family = 0; p = 0; q = 0; table = table } }
+#[tactic(auto, unfolding(crate::specs::Record::step_in))]
+fn table_step(entries: &[u8]) -> JobStep<'_>
+    ensures step { step_in result ≡ on_table (words entries.now) }
+    ensures entries { result.entries.now ≡ entries.now }
+    ensures tag { result.tag ≡ 5 }
 {
     JobStep {
         tag: 5,
         family: 0,
         p: 0,
         q: 0,
-        table,
+        entries,
     }
 }
 
-fn family_step(value: &[u8]) -> JobStep
+#[tactic(auto, unfolding(crate::specs::Record::step_in))]
+fn family_step<'a>(value: &[u8]) -> JobStep<'a>
     requires { length value.now ≡ 9 }
-    ensures { result ≡ family_step value.now }
+    ensures step { step_in result ≡ on_family (get_or value.now 0 0) (word value.now 1) (word value.now 5) }
+    ensures within { StepWithin result }
 {
     JobStep {
         tag: 4,
         family: value[0],
         p: words::word_at(value, 1),
         q: words::word_at(value, 5),
-        table: Span { at: 0, n: 0 },
+        entries: &[],
     }
 }
 
-fn with_step(steps: JobSteps, step: JobStep) -> JobSteps
+fn with_step<'a>(steps: JobSteps<'a>, step: JobStep<'a>) -> JobSteps<'a>
     requires { (steps.count < most_steps) × (length steps.items ≡ most_steps) }
-    ensures { result ≡ record { items = set steps.items steps.count step; count = steps.count + 1 } }
+    ensures { result ≡ record { items = set steps.entry.items steps.entry.count step.entry; count = steps.entry.count + 1 } }
 {
     let mut items = steps.items;
     let count = steps.count;
@@ -64,53 +69,44 @@ fn with_step(steps: JobSteps, step: JobStep) -> JobSteps
     }
 }
 
-// The parts with one field more, whose value stands at a place of the job.
-pub(crate) fn with_field(parts: JobParts, tag: u8, at: usize, value: &[u8]) -> JobParts
+// The parts with one field more.
+pub(crate) fn with_field<'a>(parts: JobParts<'a>, tag: u8, value: &'a [u8]) -> JobParts<'a>
     requires { Fillable parts tag (length value.now) }
-    ensures { Filled parts tag at value.now result }
+    ensures { Filled parts.entry tag value.now result }
 {
-    let mut next = parts;
-    let steps = parts.steps;
-    let n = value.len() / 4;
-    let span = Span { at, n };
-    let halves = Span {
-        at,
-        n: value.len() / 2,
-    };
     match tag {
-        1 => {
-            next.kind = value[0];
-            next
-        }
-        2 => {
-            next.capacity = words::word_at(value, 0);
-            next
-        }
-        3 => {
-            next.sizes = span;
-            next
-        }
-        4 => {
-            next.steps = with_step(steps, family_step(value));
-            next
-        }
-        6 => {
-            next.rows = parts.rows + 1;
-            next.coefficients = parts.coefficients + (n - 1);
-            next
-        }
-        7 => {
-            next.counts = halves;
-            next
-        }
-        8 => {
-            next.blocks = halves;
-            next.divided = true;
-            next
-        }
-        _ => {
-            next.steps = with_step(steps, table_step(span));
-            next
-        }
+        1 => JobParts {
+            kind: value[0],
+            ..parts
+        },
+        2 => JobParts {
+            capacity: words::word_at(value, 0),
+            ..parts
+        },
+        3 => JobParts {
+            sizes: value,
+            ..parts
+        },
+        4 => JobParts {
+            steps: with_step(parts.steps, family_step(value)),
+            ..parts
+        },
+        6 => JobParts {
+            rows: parts.rows + 1,
+            coefficients: parts.coefficients + (value.len() / 4 - 1),
+            ..parts
+        },
+        7 => JobParts {
+            counts: value,
+            ..parts
+        },
+        8 => JobParts {
+            blocks: Some(value),
+            ..parts
+        },
+        _ => JobParts {
+            steps: with_step(parts.steps, table_step(value)),
+            ..parts
+        },
     }
 }

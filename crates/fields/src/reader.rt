@@ -1,55 +1,46 @@
-// The field reader: the header and the value of the first field of a job's rest.
-ghost use Rattle.std.specs.Prelude.{◌≡◌, false, ◌^◌, ◌≤◌, ◌<◌, length};
-ghost use Rattle.fields.specs.Bytes.{header_bytes, field_length, header_of, field_value};
+// The field reader: the header and the value of the first field of a job's rest, and what is behind it.
+ghost use Rattle.std.specs.Prelude.{◌≡◌};
+ghost use Rattle.fields.specs.Bytes.{header_of, field_value, field_rest};
 
 use crate::{HEADER, Header, words};
 
-// The length in a header.
-fn length_at_header(rest: &[u8]) -> usize
-    requires { header_bytes ≤ length rest.now }
-    ensures { (result ≡ field_length rest.now) × (result < 2 ^ 16) }
-{
-    words::halfword_at(rest, 1) as usize
-}
-
-fn no_header() -> Header
-    ensures { result ≡ record { within = false; tag = 0; length = 0 } }
-{
-    Header {
-        within: false,
-        tag: 0,
-        length: 0,
-    }
-}
-
 // The header of the first field, where header and value are within the rest.
-pub(crate) fn read_header(rest: &[u8]) -> Header
+#[tactic(auto, unfolding(crate::specs::Bytes::header_of, crate::specs::Bytes::field_within, crate::specs::Bytes::field_tag, crate::specs::Bytes::field_length))]
+pub(crate) fn read_header(rest: &[u8]) -> Option<Header>
     ensures { result ≡ header_of rest.now }
 {
     if rest.len() < HEADER {
-        return no_header();
+        return None;
     }
-    let length = length_at_header(rest);
+    let length = words::halfword_at(rest, 1) as usize;
     if rest.len() - HEADER < length {
-        return no_header();
+        return None;
     }
-    Header {
-        within: true,
+    Some(Header {
         tag: rest[0],
         length,
-    }
+    })
 }
 
 // The value of the first field, as a part of the job; the empty part at the end where header or
 // value runs past it.
-pub(crate) fn field_value(rest: &[u8], header: Header) -> &[u8]
+pub(crate) fn field_value(rest: &[u8], header: Option<Header>) -> &[u8]
     requires { header ≡ header_of rest.now }
     ensures { result.now ≡ field_value rest.now }
 {
-    let n = rest.len();
-    if header.within {
-        let end = HEADER + header.length;
-        return &rest[HEADER..end];
+    match header {
+        Some(header) => &rest[HEADER..HEADER + header.length],
+        None => &rest[rest.len()..],
     }
-    &rest[n..]
+}
+
+// The rest of the job from the next field on.
+pub(crate) fn field_rest(rest: &[u8], header: Option<Header>) -> &[u8]
+    requires { header ≡ header_of rest.now }
+    ensures { result.now ≡ field_rest rest.now }
+{
+    match header {
+        Some(header) => &rest[HEADER + header.length..],
+        None => &rest[rest.len()..],
+    }
 }

@@ -10,7 +10,6 @@ pub mod Legal
 pub mod Promise
 pub mod Identities
 pub mod Ready
-pub mod Prepared
 pub mod Answers
 pub mod Pasted
 pub mod Mapped

@@ -1,15 +1,14 @@
--- What a prepared step holds, and what each formula asks of it and of a size: the `requires` of the functions in `src/formula.rt`.
-use mathlib.Core.Path.{◌≡◌, refl, ap, ◌∙◌}
-use mathlib.Core.Bool.{true, false}
+-- What each formula asks of an accepted step and of a size: the `requires` of the functions in `src/formula.rt`.
+use mathlib.Core.Path.{◌≡◌, refl}
+use mathlib.Core.Bool.{true}
 use Prim.Native.Nat.{ℕ, ◌+◌, ◌-◌, ◌*◌, ◌%◌, ◌^◌, ◌≤◌, ◌<◌}
 use native.Mathlib.Nat.{mod-lt}
 use native.Mathlib.Omega.{arith}
-use lib.Dec.{eqb}
 use Rattle.functions.specs.Words.{limit}
-use Rattle.functions.specs.Families.{quotient, vanderbeck, letchford_lodi, is_family, legal, family_scale}
-use Rattle.functions.specs.Prepared.{top_of, prepared, PreparedFor}
-use Rattle.functions.specs.declared.steps.PreparedStep.{PreparedStep}
-use Rattle.functions.proofs.Legal.{seven, family_bounds, Within, limits, legal_of, legal_1, legal_3, legal_4, legal_5, legal_6, legal_7}
+use Rattle.functions.specs.Families.{quotient, vanderbeck, letchford_lodi, is_family, family_scale}
+use Rattle.functions.specs.Image.{family_refusal}
+use Rattle.functions.specs.Prepared.{top_of}
+use Rattle.functions.proofs.Legal.{seven, family_bounds, limits, legal_of, legal_1, legal_3, legal_4, legal_5, legal_6, legal_7}
 
 -- the families that are mirrors
 pub twice_top : (c family p q : ℕ) → is_family family ≡ true → (family ≡ 1 → ⊥) → (family ≡ 2 → ⊥) → (family ≡ 5 → ⊥) → (family ≡ 7 → ⊥) → 2 * top_of c family p q ≡ family_scale c family p q
@@ -26,52 +25,41 @@ twice_top c family p q is a b d e =
     (λ _ _ _ e. absurd (e refl))
     family bounds.0 bounds.1 a b d e
 
-module _ (s : PreparedStep) where
-  pub remainder_is : (family : ℕ) → eqb family 1 ≡ false → PreparedFor family s → s.remainder ≡ s.capacity % s.p
-  unfolding prepared
-  remainder_is family other r = ap (λ (t : PreparedStep). t.remainder) r.is_prepared ∙ rw other
+module _ (c p q x : ℕ) (l : x ≤ c) where
+  pub ready_1 : family_refusal c 1 p q ≡ 0 → 2 * p ≤ c + 1
+  ready_1 e = legal_1 _ _ _ (legal_of _ _ _ 1 e)
 
-  top_is : (family : ℕ) → PreparedFor family s → s.top ≡ top_of s.capacity family s.p s.q
-  unfolding prepared
-  top_is family r = ap (λ (t : PreparedStep). t.top) r.is_prepared
+  pub ready_2 : family_refusal c 2 p q ≡ 0 → (0 < c) × (p ≤ limit) × (x < 2 ^ 32)
+  ready_2 e = omega (arith, limits c p q 2 e)
 
-  legal_step : (family : ℕ) → PreparedFor family s → legal s.capacity family s.p s.q ≡ true
-  legal_step family r = legal_of _ _ _ family r.accepted
-
-  step_limits : (family : ℕ) → PreparedFor family s → Within s.capacity s.p s.q
-  step_limits family r = limits _ _ _ family r.accepted
-
-  module _ (x : ℕ) (l : x ≤ s.capacity) where
-    pub ready_1 : PreparedFor 1 s → 2 * s.p ≤ s.capacity + 1
-    ready_1 r = legal_1 _ _ _ (legal_step 1 r)
-
-    pub ready_2 : PreparedFor 2 s → (0 < s.capacity) × (s.p ≤ limit) × (x < 2 ^ 32)
-    ready_2 r = omega (arith, step_limits 2 r)
-
-    pub ready_3 : PreparedFor 3 s → (x ≤ s.capacity) × (s.capacity ≤ limit) × (0 < s.p) × (s.top ≡ quotient s.p s.capacity)
+  -- families 3, 4 and 6: the mirror's value at the capacity is `top`
+  module _ (top : ℕ) where
+    pub ready_3 : family_refusal c 3 p q ≡ 0 → top ≡ top_of c 3 p q → (x ≤ c) × (c ≤ limit) × (0 < p) × (top ≡ quotient p c)
     unfolding top_of
-    ready_3 r =
-        let w = step_limits 3 r in
-        (l, w.capacity_within_limit, (legal_3 _ _ _ (legal_step 3 r)).0, top_is 3 r)
+    ready_3 e top_is =
+        let w = limits c p q 3 e in
+        (l, w.capacity_within_limit, (legal_3 _ _ _ (legal_of _ _ _ 3 e)).0, top_is)
 
-    pub ready_4 : PreparedFor 4 s → (x ≤ s.capacity) × (0 < s.capacity) × (s.capacity ≤ limit) × (1 ≤ s.p) × (s.p ≤ limit) × (s.top ≡ vanderbeck s.capacity s.p s.capacity)
+    pub ready_4 : family_refusal c 4 p q ≡ 0 → top ≡ top_of c 4 p q → (x ≤ c) × (0 < c) × (c ≤ limit) × (1 ≤ p) × (p ≤ limit) × (top ≡ vanderbeck c p c)
     unfolding top_of
-    ready_4 r =
-        let w = step_limits 4 r in
-        (l, w.capacity_positive, w.capacity_within_limit, omega (arith, legal_4 _ _ _ (legal_step 4 r)), w.p_within_limit, top_is 4 r)
+    ready_4 e top_is =
+        let w = limits c p q 4 e in
+        (l, w.capacity_positive, w.capacity_within_limit, omega (arith, legal_4 _ _ _ (legal_of _ _ _ 4 e)), w.p_within_limit, top_is)
 
-    pub ready_5 : PreparedFor 5 s → s.remainder < s.p
-    ready_5 r = rw (remainder_is 5 refl r) (mod-lt s.capacity (legal_5 _ _ _ (legal_step 5 r)).0)
-
-    pub ready_6 : PreparedFor 6 s → (x ≤ s.capacity) × (s.capacity ≤ limit) × (s.p ≤ s.capacity) × (s.q ≤ limit) × (s.remainder < s.p) × (s.p - s.remainder ≤ s.q * s.remainder) × (s.top ≡ letchford_lodi s.p s.q s.remainder s.capacity)
+    pub ready_6 : family_refusal c 6 p q ≡ 0 → top ≡ top_of c 6 p q → (r : ℕ) → r ≡ c % p → (x ≤ c) × (c ≤ limit) × (p ≤ c) × (q ≤ limit) × (r < p) × (p - r ≤ q * r) × (top ≡ letchford_lodi p q r c)
     unfolding top_of
-    ready_6 r =
-        let w = step_limits 6 r in
-        let pair = legal_6 _ _ _ (legal_step 6 r) in
-        rw (remainder_is 6 refl r) (l, w.capacity_within_limit, pair.most, w.q_within_limit, pair.below, pair.enough, top_is 6 r)
+    ready_6 e top_is r r_is =
+        let w = limits c p q 6 e in
+        let pair = legal_6 _ _ _ (legal_of _ _ _ 6 e) in
+        rw r_is (l, w.capacity_within_limit, pair.most, w.q_within_limit, pair.below, pair.enough, top_is)
 
-    pub ready_7 : PreparedFor 7 s → (s.remainder < s.p) × (s.p ≤ limit) × (s.q ≤ limit) × (x ≤ limit)
-    ready_7 r =
-        let w = step_limits 7 r in
-        let pair = legal_7 _ _ _ (legal_step 7 r) in
-        omega (arith, remainder_is 7 refl r)
+  -- families 5 and 7
+  module _ (r : ℕ) (r_is : r ≡ c % p) where
+    pub ready_5 : family_refusal c 5 p q ≡ 0 → r < p
+    ready_5 e = rw r_is (mod-lt c (legal_5 _ _ _ (legal_of _ _ _ 5 e)).0)
+
+    pub ready_7 : family_refusal c 7 p q ≡ 0 → (r < p) × (p ≤ limit) × (q ≤ limit) × (x ≤ limit)
+    ready_7 e =
+        let w = limits c p q 7 e in
+        let pair = legal_7 _ _ _ (legal_of _ _ _ 7 e) in
+        omega (arith, r_is)

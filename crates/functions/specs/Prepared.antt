@@ -1,9 +1,7 @@
--- Within the crate: the greatest p that a family takes at all, and a step with what no size changes.
-use Rattle.std.specs.Prelude.{◌≡◌, cond, ℕ, ◌%◌, eqb}
+-- Within the crate: the greatest p that a family takes at all, and what of a step no size changes.
+use Rattle.std.specs.Prelude.{cond, ℕ, ◌%◌, eqb}
 use Rattle.functions.specs.Words.{limit}
 use Rattle.functions.specs.Families.{quotient, vanderbeck, letchford_lodi}
-use Rattle.functions.specs.Image.{family_refusal}
-use Rattle.functions.specs.declared.steps.PreparedStep.{PreparedStep}
 
 -- only family 2 takes a p over the capacity
 abbrev pub greatest_p : ℕ → ℕ → ℕ
@@ -17,17 +15,5 @@ top_of c family p q =
     (cond (eqb family 6) (letchford_lodi p q (c % p) c) 0))
 
 -- only family 1 takes p = 0, and its formula has no remainder
-unfoldable pub prepared : ℕ → ℕ → ℕ → ℕ → PreparedStep
-prepared c family p q =
-    record {
-      capacity = c;
-      p = p;
-      q = q;
-      remainder = cond (eqb family 1) 0 (c % p);
-      top = top_of c family p q;
-    }
-
--- a step that is accepted, and prepared for its family
-pub record PreparedFor (family : ℕ) (step : PreparedStep) : Type 0 where
-  pub accepted : family_refusal step.capacity family step.p step.q ≡ 0
-  pub is_prepared : step ≡ prepared step.capacity family step.p step.q
+abbrev pub remainder_of : ℕ → ℕ → ℕ → ℕ
+remainder_of c family p = cond (eqb family 1) 0 (c % p)

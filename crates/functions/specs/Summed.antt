@@ -1,26 +1,12 @@
 -- Sums of count times number over a list, as the loops make them; within this crate and for those above it.
 use Rattle.std.specs.Prelude.{◌≡◌, cond, List, map, ℕ, ◌*◌, ◌^◌, ◌≤◌, ◌<◌, eqb, length, take}
-use Rattle.functions.specs.Words.{limit, most_count, weighted, EachWithin}
-use Rattle.functions.specs.Families.{family_image}
-use Rattle.functions.specs.Prepared.{PreparedFor}
-use Rattle.functions.specs.declared.steps.PreparedStep.{PreparedStep}
+use Rattle.functions.specs.Words.{limit, most_count, weighted}
 
 -- the sum over the first i places of the sizes, where no number is over d
 pub record Summed (f : ℕ → ℕ) (d : ℕ) (counts sizes : List ℕ) (sum i : ℕ) : Type 0 where
   pub passed : i ≤ length sizes
   pub sum_is : sum ≡ weighted (take i counts) (map f (take i sizes))
   pub sum_most : sum ≤ i * (most_count * d)
-
--- the images of a prepared step
-abbrev pub image_under : ℕ → PreparedStep → ℕ → ℕ
-image_under family step = family_image step.capacity family step.p step.q
-
--- sizes with their counts that can be summed under a prepared step
-pub record Summable (family : ℕ) (step : PreparedStep) (sizes counts : List ℕ) : Type 0 where
-  pub prepared_for : PreparedFor family step
-  pub within : EachWithin step.capacity sizes
-  pub one_each : length counts ≡ length sizes
-  pub few : length sizes * (most_count * limit) < 2 ^ 64
 
 -- 1 for the size v, and 0 for every other: counted, the copies of v
 unfoldable pub same_as : ℕ → ℕ → ℕ

@@ -11,6 +11,7 @@ pub(crate) struct Copies {
 }
 
 // The count of a size that is v, and 0 of any other.
+#[tactic(auto, unfolding(crate::specs::Summed::same_as))]
 fn counted_if(x: u32, v: u32, count: u32) -> u32
     ensures { result ≡ count * same_as v x }
 {
@@ -24,15 +25,13 @@ pub(crate) fn copies_of(sizes: &[u32], counts: &[u16], v: u32, w: u32) -> Copies
 {
     let mut first = 0;
     let mut second = 0;
-    let mut i = 0;
-    while i < sizes.len() {
-        let count = counts[i] as u32;
-        first += counted_if(sizes[i], v, count);
-        second += counted_if(sizes[i], w, count);
-        i += 1;
+    for (size, count) in sizes.iter().zip(counts) {
+        let count = u32::from(*count);
+        first += counted_if(*size, v, count);
+        second += counted_if(*size, w, count);
     }
     Copies {
-        first: first as u64,
-        second: second as u64,
+        first: u64::from(first),
+        second: u64::from(second),
     }
 }

@@ -1,24 +1,12 @@
 // The seven formulas at one size. What a formula needs and the size does not change, as the
-// remainder of the capacity, comes in as a number, so that a loop over sizes computes it once.
+// remainder of the capacity, comes in as a number, so that a loop over sizes computes it once. Each
+// asks for bounds of the numbers that it takes: no two take the same, so no struct holds them.
 ghost use Rattle.std.specs.Prelude.{◌≡◌, ℕ, ◌+◌, ◌-◌, ◌*◌, ◌^◌, ◌≤◌, ◌<◌, min};
 ghost use Rattle.functions.specs.Words.{limit};
 ghost use Rattle.functions.specs.Families.{mirror, threshold, rounding, quotient, vanderbeck};
 ghost use Rattle.functions.specs.Families.{burdett_johnson, letchford_lodi, dash_gunluk};
 
 use crate::round_up;
-
-fn lesser(a: u64, b: u64) -> u64
-    ensures { result ≡ min a b }
-{
-    if a < b { a } else { b }
-}
-
-// How far a is above b, or 0.
-fn excess(a: u64, b: u64) -> u64
-    ensures { result ≡ a - b }
-{
-    if b < a { a - b } else { 0 }
-}
 
 // Half of the mirror's value at x, which leaves the rest of the capacity, but for the middle.
 fn side(top: u64, part: u64, x: u64, rest: u64) -> u64
@@ -71,7 +59,7 @@ pub(crate) fn mirrored_quotient(capacity: u64, p: u64, top: u64, x: u64) -> u64
     ensures { result ≡ mirror capacity (quotient p) x }
 {
     let rest = capacity - x;
-    mirrored(top, lesser(x, rest) / p, x, rest)
+    mirrored(top, x.min(rest) / p, x, rest)
 }
 
 // Family 4, with top = p - 1. The quotient is 0 for the size 0 alone, so that a difference which
@@ -82,23 +70,24 @@ pub(crate) fn mirrored_vanderbeck(capacity: u64, p: u64, top: u64, x: u64) -> u6
     ensures { result ≡ mirror capacity (vanderbeck capacity p) x }
 {
     let rest = capacity - x;
-    let part = excess(round_up(p * lesser(x, rest), capacity), 1);
+    let part = round_up(p * x.min(rest), capacity).saturating_sub(1);
     mirrored(top, part, x, rest)
 }
 
 // Family 5, with r = capacity % p.
+#[tactic(auto, using(crate::proofs::Bounds::whole_most, crate::proofs::Remainder::burdett_johnson_is))]
 pub(crate) fn burdett_johnson(p: u64, r: u64, x: u64) -> u64
     requires { r < p }
     ensures { result ≡ burdett_johnson p r x }
 {
-    x / p * (p - r) + excess(x % p, r)
+    x / p * (p - r) + (x % p).saturating_sub(r)
 }
 
 fn letchford_lodi(p: u64, q: u64, r: u64, x: u64) -> u64
     requires { (r < p) × (p ≤ limit) × (q ≤ limit) × (x ≤ limit) }
     ensures { result ≡ letchford_lodi p q r x }
 {
-    (q + 1) * (x / p) + round_up(excess(x % p, r) * q, p - r)
+    (q + 1) * (x / p) + round_up((x % p).saturating_sub(r) * q, p - r)
 }
 
 // Family 6, with r = capacity % p and top = (q + 1) * (capacity / p).
@@ -115,7 +104,7 @@ pub(crate) fn mirrored_letchford_lodi(
     ensures { result ≡ mirror capacity (letchford_lodi p q r) x }
 {
     let rest = capacity - x;
-    let part = letchford_lodi(p, q, r, lesser(x, rest));
+    let part = letchford_lodi(p, q, r, x.min(rest));
     mirrored(top, part, x, rest)
 }
 
@@ -125,7 +114,7 @@ pub(crate) fn dash_gunluk(p: u64, q: u64, r: u64, x: u64) -> u64
     ensures { result ≡ dash_gunluk p q r x }
 {
     let gap = p - r;
-    let b = excess(x % p, r);
+    let b = (x % p).saturating_sub(r);
     let n = b * q;
     let whole = round_up(n, gap) * gap;
     let base = x / p * gap * (q + 1);

@@ -6,6 +6,7 @@ ghost use Rattle.functions.specs.Prepared.{greatest_p, top_of};
 
 use crate::LIMIT;
 
+#[tactic(auto, unfolding(crate::specs::Families::is_family))]
 pub(crate) fn is_family(family: u8) -> bool
     ensures { result ≡ is_family family }
 {
@@ -13,6 +14,7 @@ pub(crate) fn is_family(family: u8) -> bool
 }
 
 // The parameter of families 1 to 5, which have no q. It is no more than the greatest.
+#[tactic(auto, unfolding(crate::specs::Families::legal_for))]
 fn legal_single(capacity: u64, family: u8, p: u64) -> bool
     requires { (capacity ≤ limit) × (1 ≤ family) × (family ≤ 5) × (p ≤ limit)
         × (p ≤ greatest_p capacity family) }

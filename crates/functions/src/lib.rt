@@ -5,18 +5,23 @@
 mod copies;
 mod formula;
 mod judge;
+mod step;
 mod steps;
 
-ghost use Rattle.std.specs.Prelude.{◌≡◌, map, ◌+◌, ◌-◌, ◌*◌, ◌^◌, ◌≤◌, ◌<◌, length};
-ghost use Rattle.functions.specs.Words.{limit, capacity_fits, most_count, weighted, EachWithin};
-ghost use Rattle.functions.specs.Families.{◌up◌, family_image, family_scale};
-ghost use Rattle.functions.specs.Image.{family_refusal, family_answer, image_answer};
-ghost use Rattle.functions.specs.Summed.{Carriable};
+ghost use Rattle.std.specs.Prelude.{◌≡◌, ◌+◌, ◌-◌, ◌*◌, ◌^◌, ◌<◌, IfOk};
+ghost use Rattle.refusals.specs.Number.{number_in, number_of};
+ghost use Rattle.functions.specs.Words.{capacity_fits};
+ghost use Rattle.functions.specs.Families.{◌up◌};
+ghost use Rattle.functions.specs.Image.{family_refusal, image_refusal, image_answer, refused_image};
+
+pub use crate::step::FamilyStep;
+use crate::steps::PreparedStep;
+use refusals::Refusal;
 
 // The greatest capacity, parameter, scale and table entry.
 pub const LIMIT: u64 = 4_000_000_000;
 
-// The answer to an image: the number that refuses it, or 0 with the image and the scale.
+// The answer to an image, as C reads it: the number that refuses it, or 0 with the image and the scale.
 #[repr(C)]
 #[derive(Clone, Copy)]
 pub struct ImageAnswer {
@@ -25,14 +30,8 @@ pub struct ImageAnswer {
     pub scale: u64,
 }
 
-// The judgement of a family step: the number that refuses it, or 0 with the scale.
-#[derive(Clone, Copy)]
-pub struct FamilyAnswer {
-    pub number: u64,
-    pub scale: u64,
-}
-
-// The quotient rounded up, without a test. Every quotient that is rounded up is computed here.
+// The quotient rounded up, without a test, as the project's rule has it: `div_ceil` tests the remainder.
+// Every quotient that is rounded up is computed here.
 pub fn round_up(a: u64, b: u64) -> u64
     requires { (0 < b) × (a + (b - 1) < 2 ^ 64) }
     ensures { result ≡ (a up b) }
@@ -40,74 +39,72 @@ pub fn round_up(a: u64, b: u64) -> u64
     (a + (b - 1)) / b
 }
 
+#[tactic(auto, unfolding(crate::specs::Words::capacity_fits))]
 pub fn capacity_fits(capacity: u64) -> bool
     ensures { result ≡ capacity_fits capacity }
 {
     1 <= capacity && capacity <= LIMIT
 }
 
-pub fn judge_family(capacity: u64, family: u8, p: u64, q: u64) -> FamilyAnswer
-    ensures { result ≡ family_answer capacity family p q }
+pub fn judge_family(capacity: u64, family: u8, p: u64, q: u64) -> Result<FamilyStep, Refusal>
+    ensures number { number_in result ≡ family_refusal capacity family p q }
+    ensures step { IfOk result (λ s. (s.capacity ≡ capacity) × (s.family ≡ family) × (s.p ≡ p) × (s.q ≡ q)) }
 {
     if !capacity_fits(capacity) {
-        return FamilyAnswer {
-            number: 1,
-            scale: 0,
-        };
+        return Err(Refusal::Capacity);
     }
     if !judge::is_family(family) {
-        return FamilyAnswer {
-            number: 2,
-            scale: 0,
-        };
+        return Err(Refusal::Family);
     }
     if !judge::is_legal(capacity, family, p, q) {
-        return FamilyAnswer {
-            number: 3,
-            scale: 0,
-        };
+        return Err(Refusal::Parameters);
     }
     let scale = judge::scale(capacity, family, p, q);
     if LIMIT < scale {
-        return FamilyAnswer {
-            number: 4,
-            scale: 0,
-        };
+        return Err(Refusal::ScaleOverLimit);
     }
-    FamilyAnswer { number: 0, scale }
+    Ok(FamilyStep {
+        capacity,
+        p,
+        q,
+        scale,
+        family,
+    })
 }
 
-// The scale of an accepted step.
-pub fn scale_of(capacity: u64, family: u8, p: u64, q: u64) -> u64
-    requires { family_refusal capacity family p q ≡ 0 }
-    ensures { result ≡ family_scale capacity family p q }
+impl From<Refusal> for ImageAnswer {
+    ghost from_gives = { λ refusal answer. answer ≡ refused_image (number_of refusal) };
+
+    fn from(refusal: Refusal) -> ImageAnswer {
+        ImageAnswer {
+            number: refusal.number(),
+            image: 0,
+            scale: 0,
+        }
+    }
+}
+
+fn accepted_image(capacity: u64, family: u8, p: u64, q: u64, x: u64) -> Result<ImageAnswer, Refusal>
+    ensures number { number_in result ≡ image_refusal capacity family p q x }
+    ensures answer { IfOk result (λ answer. answer ≡ image_answer capacity family p q x) }
 {
-    judge::scale(capacity, family, p, q)
+    let step = judge_family(capacity, family, p, q)?;
+    if capacity < x {
+        return Err(Refusal::SizeOverCapacity);
+    }
+    Ok(ImageAnswer {
+        number: 0,
+        image: PreparedStep::of(step).image(x),
+        scale: step.scale,
+    })
 }
 
 fn answer_for(capacity: u64, family: u8, p: u64, q: u64, x: u64) -> ImageAnswer
     ensures { result ≡ image_answer capacity family p q x }
 {
-    let judged = judge_family(capacity, family, p, q);
-    if judged.number != 0 {
-        return ImageAnswer {
-            number: judged.number,
-            image: 0,
-            scale: 0,
-        };
-    }
-    if capacity < x {
-        return ImageAnswer {
-            number: 5,
-            image: 0,
-            scale: 0,
-        };
-    }
-    let step = steps::prepare(capacity, family, p, q);
-    ImageAnswer {
-        number: 0,
-        image: steps::image_of(family, step, x),
-        scale: judged.scale,
+    match accepted_image(capacity, family, p, q, x) {
+        Ok(answer) => answer,
+        Err(refusal) => ImageAnswer::from(refusal),
     }
 }
 
@@ -125,50 +122,4 @@ pub fn windowfloor_image(capacity: u64, family: u8, p: u64, q: u64, x: u64) -> I
         7 => answer_for(capacity, 7, p, q, x),
         _ => answer_for(capacity, family, p, q, x),
     }
-}
-
-// Maps each size of a list to its image under an accepted step, in place.
-pub fn map_family(capacity: u64, family: u8, p: u64, q: u64, list: &mut [u32])
-    requires { (family_refusal capacity family p q ≡ 0) × EachWithin capacity list.old }
-    ensures { list.new ≡ map (family_image capacity family p q) list.old }
-{
-    match family {
-        1 => steps::map_sizes(capacity, 1, p, q, list),
-        2 => steps::map_sizes(capacity, 2, p, q, list),
-        3 => steps::map_sizes(capacity, 3, p, q, list),
-        4 => steps::map_sizes(capacity, 4, p, q, list),
-        5 => steps::map_sizes(capacity, 5, p, q, list),
-        6 => steps::map_sizes(capacity, 6, p, q, list),
-        _ => steps::map_sizes(capacity, 7, p, q, list),
-    }
-}
-
-// Sums count times image over a list under an accepted step with q 0. Only families 1 to 5 have such
-// steps.
-pub fn sum_family(capacity: u64, family: u8, p: u64, list: &[u32], counts: &[u16]) -> u64
-    requires { (family_refusal capacity family p 0 ≡ 0) × EachWithin capacity list.now
-        × (length counts.now ≡ length list.now) × (length list.now * (most_count * limit) < 2 ^ 64) }
-    ensures { (result ≡ weighted counts.now (map (family_image capacity family p 0) list.now))
-        × (result ≤ length list.now * (most_count * limit)) }
-{
-    match family {
-        1 => steps::sum_sizes(capacity, 1, p, list, counts),
-        2 => steps::sum_sizes(capacity, 2, p, list, counts),
-        3 => steps::sum_sizes(capacity, 3, p, list, counts),
-        4 => steps::sum_sizes(capacity, 4, p, list, counts),
-        _ => steps::sum_sizes(capacity, 5, p, list, counts),
-    }
-}
-
-// The sum of family 1 at p + 1, from that at p: from there on the sizes p are mapped to 0, and the sizes
-// capacity - p to the capacity.
-pub fn carry_threshold(capacity: u64, p: u64, sum: u64, list: &[u32], counts: &[u16]) -> u64
-    requires { (family_refusal capacity 1 (p + 1) 0 ≡ 0) × EachWithin capacity list.now
-        × Carriable list.now counts.now
-        × (sum ≡ weighted counts.now (map (family_image capacity 1 p 0) list.now)) }
-    ensures { (result ≡ weighted counts.now (map (family_image capacity 1 (p + 1) 0) list.now))
-        × (result ≤ length list.now * (most_count * limit)) }
-{
-    let moved = copies::copies_of(list, counts, p as u32, (capacity - p) as u32);
-    sum + p * moved.second - p * moved.first
 }

@@ -17,6 +17,7 @@ pub fn read_full<R: Read>(reader: &mut R, buffer: &mut [u8]) -> io::Result<usize
     ensures none_lost { OnErr result ((n : ℕ) × Consumes (R.remaining reader.old) (R.remaining reader.new) (take n buffer.new)) }
 {
     let mut done = 0;
+    // A read may give less than was asked for, and the next one goes on behind it.
     while done < buffer.len() {
         let n = reader.read(&mut buffer[done..])?;
         if n == 0 {

@@ -1,14 +1,17 @@
 -- The whole job operation: which refusal stands, and that an accepted answer is safe.
+use Rattle.std.specs.Prelude.{Result, Ok, Err}
+use Rattle.std.specs.Result.{MatchResult}
+use Rattle.std.proofs.lemmas.List.{take-append-drop, drop-append-le}
 use mathlib.Core.Path.{◌≡◌, refl, ap, sym, ◌∙◌}
 use mathlib.Core.Bool.{Bool, true, false, cond, not, ◌||◌}
-use mathlib.Core.List.{List, ◌++◌, map}
+use mathlib.Core.List.{List, ◌++◌, map, append_assoc}
 use mathlib.Core.Logic.{⊎_elim}
 use Prim.Native.Nat.{ℕ, ◌-◌, ◌≤◌, ◌<◌}
 use native.Mathlib.Nat.{eq-zero-or-pos}
 use native.Mathlib.Omega.{arith}
 use borrow.Author.Tests.{eqb-true, eqb-false, eq-eqb, ne_eqb, ltb-false}
 use lib.Dec.{ltb, eqb}
-use lib.ListN.{length, length-map, get_or, take, drop}
+use lib.ListN.{length, length-map, length-append, get_or, take, drop}
 use lib.Seq.{take_at}
 use Rattle.functions.specs.Words.{total}
 use Rattle.functions.proofs.Cases.{not_refused, neither}
@@ -16,80 +19,109 @@ use Rattle.tables.specs.Check.{most_entries}
 use Rattle.fields.specs.Bytes.{halfwords}
 use Rattle.fields.specs.Parts.{Field, value_of, Step, Row, job_kind, job_capacity, job_sizes, job_counts, block_numbers, job_steps, job_rows, coefficient_count}
 use Rattle.fields.specs.Grammar.{most_bytes, most_sizes, most_rows, most_blocks, floor_kind, rows_kind}
-use Rattle.fields.specs.Reading.{fields_of}
-use Rattle.fields.specs.Record.{JobReading, no_row}
-use Rattle.fields.specs.declared.JobRead.{JobRead}
+use Rattle.fields.specs.Reading.{Fields, refused, complete, job_fields, fields_of}
+use Rattle.fields.specs.Record.{no_row}
 use Rattle.chains.specs.Chain.{chain_image, chain_scale}
 use Rattle.chains.specs.Apply.{ChainAppliable}
 use Rattle.blocks.specs.Block.{divide, block_floor}
 use Rattle.blocks.proofs.Dividing.{fit}
 use Rattle.jobs.specs.Kinds.{is_kind, least_of, rows_fit}
 use Rattle.jobs.specs.Packing.{FloorSafe, TotalSafe, ChainPromise}
-use Rattle.chains.specs.Judge.{Refusal, plain, StepOvershoots, verdict_of, list_by, CheckRoom}
+use Rattle.chains.specs.Judge.{Judgement, plain, StepOvershoots, RefusedAs, list_by}
 use Rattle.jobs.specs.JudgeRows.{judge_row, judge_rows}
-use Rattle.jobs.specs.Job.{fields_in, is_divided, blocks_right, judge_fields, judge_reading, Places, places_of, buffer_refusal, judge_job, row_images, row_scale, job_images, job_count, job_scales, job_floor, job_blocks, job_block_floors, job_total, accepted_answer, refused_answer, answer_by, images_by, scales_by, floors_written, blocks_by, Finished, Answered, job_answer, images_after, list_after_job, scales_after, blocks_after, start_capacity, CutHolds, RowHolds, no_block, JobSafe}
+use Rattle.jobs.specs.Job.{fields_in, is_divided, blocks_right, judge_fields, judge_reading, Places, buffer_refusal, judge_job, row_images, row_scale, job_images, job_count, job_scales, job_floor, job_blocks, job_block_floors, job_total, accepted_answer, refused_answer, answer_by, images_by, scales_by, floors_written, blocks_by, Finished, OutcomeBy, Answered, start_capacity, CutHolds, RowHolds, no_block, JobSafe}
 use Rattle.jobs.specs.declared.JobAnswer.{JobAnswer}
-use Rattle.chains.specs.declared.Verdict.{Verdict}
+use Rattle.chains.specs.declared.Refused.{Refused}
 use Rattle.jobs.proofs.Promise.{chain_is_safe}
 use Rattle.chains.proofs.Judged.{list_overshoots}
 use Rattle.jobs.proofs.Judged.{row_appliable, rows_accepted, list_fine, blocks_fine, rows_fine, kind_refused, rows_kind_lem, list_kind, rows_overshoot}
 use Rattle.jobs.proofs.Writing.{images_at, value_at}
+use Rattle.jobs.proofs.Finishing.{images_count}
+use Rattle.jobs.proofs.Outside.{buffers_other, unread_other}
+use Rattle.jobs.proofs.Accepted.{accepted_fields}
+use Rattle.refusals.specs.Number.{number_of}
+use Rattle.refusals.proofs.Numbers.{number_positive}
 
 -- the places that refusal 7 leaves
-pub record Rooms (images working list scales blocks : List ℕ) : Type 0 where
-  pub for_images : most_sizes ≤ length images
-  pub for_scales : most_rows ≤ length scales
-  pub for_blocks : most_blocks ≤ length blocks
-  pub for_check : CheckRoom working list
+pub record Rooms (images working list scales blocks : ℕ) : Type 0 where
+  pub for_images : most_sizes ≤ images
+  pub for_working : most_entries ≤ working
+  pub for_list : most_entries - 1 ≤ list
+  pub for_scales : most_rows ≤ scales
+  pub for_blocks : most_blocks ≤ blocks
 
-pub rooms : (n : ℕ) (images working list scales blocks : List ℕ) → buffer_refusal n (places_of images working list scales blocks) ≡ 0 → Rooms images working list scales blocks
+pub rooms : (n : ℕ) (lent : Places) → buffer_refusal n lent ≡ 0 → Rooms lent.images lent.working lent.list lent.scales lent.blocks
 unfolding buffer_refusal
-rooms n images working list scales blocks e =
-    let two = ltb (length images) most_sizes || ltb (length working) most_entries in
-    let three = two || ltb (length list) (most_entries - 1) in
-    let four = three || ltb (length scales) most_rows in
-    let enough = (not_refused (four || ltb (length blocks) most_blocks) 7 0 (omega arith) (not_refused (ltb most_bytes n) 12 _ (omega arith) e).1).0 in
-    let fifth = neither four (ltb (length blocks) most_blocks) enough in
-    let last = neither three (ltb (length scales) most_rows) fifth.0 in
-    let third = neither two (ltb (length list) (most_entries - 1)) last.0 in
-    let first = neither (ltb (length images) most_sizes) (ltb (length working) most_entries) third.0 in
+rooms n lent e =
+    let two = ltb lent.images most_sizes || ltb lent.working most_entries in
+    let three = two || ltb lent.list (most_entries - 1) in
+    let four = three || ltb lent.scales most_rows in
+    let enough = (not_refused (four || ltb lent.blocks most_blocks) 7 0 (omega arith) (not_refused (ltb most_bytes n) 12 _ (omega arith) e).1).0 in
+    let fifth = neither four (ltb lent.blocks most_blocks) enough in
+    let last = neither three (ltb lent.scales most_rows) fifth.0 in
+    let third = neither two (ltb lent.list (most_entries - 1)) last.0 in
+    let first = neither (ltb lent.images most_sizes) (ltb lent.working most_entries) third.0 in
     record {
-      for_images = ltb-false (length images) most_sizes first.0;
-      for_scales = ltb-false (length scales) most_rows last.1;
-      for_blocks = ltb-false (length blocks) most_blocks fifth.1;
-      for_check = record { for_bests = ltb-false (length working) most_entries first.1; for_list = ltb-false (length list) (most_entries - 1) third.1 };
+      for_images = ltb-false lent.images most_sizes first.0;
+      for_working = ltb-false lent.working most_entries first.1;
+      for_list = ltb-false lent.list (most_entries - 1) third.1;
+      for_scales = ltb-false lent.scales most_rows last.1;
+      for_blocks = ltb-false lent.blocks most_blocks fifth.1;
     }
 
--- a refusal as an answer
-pub refused_as : (r : Refusal) (v : Verdict) (answer : JobAnswer) → v ≡ verdict_of r → answer ≡ record { number = v.number; n = 0; floor = 0; sum = 0; scale = 0; step = v.step; length = v.length; row = v.row; total = 0 } → answer ≡ refused_answer r
-unfolding verdict_of refused_answer
-refused_as r v answer is e = rw is at e
-
-pub verdict_number : (r : Refusal) (v : Verdict) → v ≡ verdict_of r → v.number ≡ r.number
-unfolding verdict_of
-verdict_number r v is = ap (λ (u : Verdict). u.number) is
-
 -- the answer and the buffers, by what judges the job
-module _ (r : Refusal) (fields : List Field) (images list scales blocks : List ℕ) (answer : JobAnswer) (list' : List ℕ) (listed : list' ≡ list_by r list) where
-  pub answered_refused : (r.number ≡ 0 → ⊥) → answer ≡ refused_answer r → Answered r fields images list scales blocks answer images list' scales blocks
-  unfolding answer_by images_by scales_by blocks_by
-  answered_refused some e =
-      let stop = ne_eqb r.number 0 some in
-      record { answer_is = rw stop e; images_are = rw stop; list_is = listed; scales_are = rw stop; blocks_are = rw stop }
+module _ (r : Judgement) (fields : List Field) (images list scales blocks list' : List ℕ) where
+  pub answered_refused : (e : Refused) → RefusedAs r e → list' ≡ list_by r list → Answered r fields images list scales blocks (Err e) images list' scales blocks
+  unfolding images_by scales_by blocks_by
+  answered_refused e told listed =
+      let stop = ne_eqb r.number 0 (λ none. omega (arith, number_positive e.refusal, told.number_is, none)) in
+      record { outcome_is = told; images_are = rw stop; list_is = listed; scales_are = rw stop; blocks_are = rw stop }
 
-  pub answered_accepted : r.number ≡ 0 → (images' scales' blocks' : List ℕ) → Finished fields images scales blocks answer images' scales' blocks' → Answered r fields images list scales blocks answer images' list' scales' blocks'
-  unfolding answer_by images_by scales_by blocks_by
-  answered_accepted none images' scales' blocks' done =
+  pub answered_accepted : (answer : JobAnswer) (images' scales' blocks' : List ℕ) → r.number ≡ 0 → list' ≡ list_by r list → Finished fields images scales blocks answer images' scales' blocks' → Answered r fields images list scales blocks (Ok answer) images' list' scales' blocks'
+  unfolding images_by scales_by blocks_by
+  answered_accepted answer images' scales' blocks' none listed done =
       let pass = eq-eqb r.number 0 none in
       record {
-        answer_is = rw pass done.answer_is;
+        outcome_is = (none, done.answer_is);
         images_are = rw pass done.images_are;
         list_is = listed;
         scales_are = rw pass done.scales_are;
         blocks_are = rw pass done.blocks_are;
       }
 
-number_by : (r : Refusal) (fields : List Field) → (answer_by r fields).number ≡ r.number
+-- the same in the whole buffers, of which the first places were lent
+placed : (xs part whole : List ℕ) (n : ℕ) → length part ≡ length (take n whole) → part ≡ xs ++ drop (length xs) (take n whole) → part ++ drop n whole ≡ xs ++ drop (length xs) whole
+placed xs part whole n long e =
+    let inside : length xs ≤ length (take n whole) = omega (arith, long, ap length e, length-append xs (drop (length xs) (take n whole))) in
+    ap (λ (l : List ℕ). l ++ drop n whole) e
+    ∙ append_assoc xs (drop (length xs) (take n whole)) (drop n whole)
+    ∙ ap (λ (l : List ℕ). xs ++ l) (sym (drop-append-le (length xs) (take n whole) (drop n whole) inside) ∙ ap (drop (length xs)) (take-append-drop n whole))
+
+placed_by : (test : Bool) (xs part whole : List ℕ) (n k : ℕ) → k ≡ length xs → length part ≡ length (take n whole) → part ≡ cond test (xs ++ drop k (take n whole)) (take n whole) → part ++ drop n whole ≡ cond test (xs ++ drop k whole) whole
+placed_by true xs part whole n k is long e = rw is (placed xs part whole n long (rw is at e))
+placed_by false xs part whole n k is long e = ap (λ (l : List ℕ). l ++ drop n whole) e ∙ take-append-drop n whole
+
+module _ (r : Judgement) (fields : List Field) (images list scales blocks : List ℕ) (outcome : Result JobAnswer Refused) (images' list' scales' blocks' : List ℕ) where
+  -- as many places as were lent
+  abbrev Kept : Type 0
+  Kept =
+      (length images' ≡ length (take most_sizes images))
+      × (length list' ≡ length (take (most_entries - 1) list))
+      × (length scales' ≡ length (take most_rows scales))
+      × (length blocks' ≡ length (take most_blocks blocks))
+
+  pub answered_whole : Kept → Answered r fields (take most_sizes images) (take (most_entries - 1) list) (take most_rows scales) (take most_blocks blocks) outcome images' list' scales' blocks' → Answered r fields images list scales blocks outcome (images' ++ drop most_sizes images) (list' ++ drop (most_entries - 1) list) (scales' ++ drop most_rows scales) (blocks' ++ drop most_blocks blocks)
+  unfolding images_by list_by scales_by blocks_by floors_written
+  answered_whole kept a =
+      record {
+        outcome_is = a.outcome_is;
+        images_are = placed_by (eqb r.number 0) (job_images fields) images' images most_sizes (job_count fields) (sym (images_count fields)) kept.0 a.images_are;
+        list_is = placed r.list list' list (most_entries - 1) kept.1 a.list_is;
+        scales_are = placed_by (eqb r.number 0) (job_scales fields) scales' scales most_rows _ refl kept.2 a.scales_are;
+        blocks_are = placed_by (eqb r.number 0) (job_block_floors fields) blocks' blocks most_blocks _ refl kept.3 a.blocks_are;
+      }
+
+number_by : (r : Judgement) (fields : List Field) → (answer_by r fields).number ≡ r.number
 unfolding answer_by accepted_answer refused_answer
 number_by r fields = ⊎_elim (λ none. rw (eq-eqb r.number 0 none) (sym none)) (λ some. rw (ne_eqb r.number 0 (omega arith))) (eq-zero-or-pos r.number)
 
@@ -98,7 +130,7 @@ fields_overshoot : (fields : List Field) → (judge_fields fields).number ≡ 11
 unfolding plain start_capacity
 fields_overshoot fields = go (eqb (job_kind fields) rows_kind) refl
   where
-    Over : Refusal → Type 0
+    Over : Judgement → Type 0
     Over r = r.number ≡ 11 → StepOvershoots (start_capacity fields r.row) (job_steps fields) r.step r.list
 
     rows : eqb (job_kind fields) rows_kind ≡ true → (test : Bool) → Over (cond (not test) (plain 21) (judge_rows 0 (job_steps fields) (job_rows fields)))
@@ -207,69 +239,69 @@ module _ (job : List ℕ) (fine : (judge_fields (fields_in job)).number ≡ 0) (
         every_row_holds = every_row fields fine behind more;
       }
 
-abbrev pub Outcome : List ℕ → List ℕ → List ℕ → List ℕ → List ℕ → List ℕ → JobAnswer → List ℕ → ℕ → List ℕ → List ℕ → List ℕ → Type 0
-Outcome job images working list scales blocks answer images' w' list' scales' blocks' =
-    (answer ≡ job_answer job (places_of images working list scales blocks))
-    × ((images' ≡ images_after job (places_of images working list scales blocks) images)
-    × ((list' ≡ list_after_job job (places_of images working list scales blocks) list)
-    × ((scales' ≡ scales_after job (places_of images working list scales blocks) scales)
-    × ((blocks' ≡ blocks_after job (places_of images working list scales blocks) blocks)
-    × ((w' ≡ length working)
-    × ((answer.number ≡ 11 → StepOvershoots (start_capacity (fields_in job) answer.row) (job_steps (fields_in job)) answer.step (take answer.length list'))
-    × (answer.number ≡ 0 → JobSafe job answer images' scales' blocks')))))))
-
-module _ (job images working list scales blocks : List ℕ) (answer : JobAnswer) (w' : ℕ) (as_long : w' ≡ length working) where
-  -- refused outside of rows and steps: nothing is written
-  pub refused_outside : (n : ℕ) → judge_job job (places_of images working list scales blocks) ≡ plain n → (n ≡ 0 → ⊥) → (n ≡ 11 → ⊥) → (v : Verdict) → v ≡ verdict_of (plain n) → answer ≡ record { number = v.number; n = 0; floor = 0; sum = 0; scale = 0; step = v.step; length = v.length; row = v.row; total = 0 } → Outcome job images working list scales blocks answer images w' list scales blocks
-  unfolding job_answer images_after list_after_job scales_after blocks_after plain list_by verdict_of
-  refused_outside n is some other v e-is e =
-      let a = rw (← is) at (answered_refused (plain n) (fields_in job) images list scales blocks answer list refl some (refused_as (plain n) v answer e-is e)) in
-      let number : answer.number ≡ n = ap (λ (a : JobAnswer). a.number) e ∙ ap (λ (u : Verdict). u.number) e-is in
-      (a.answer_is, (a.images_are, (a.list_is, (a.scales_are, (a.blocks_are, (as_long, (λ eleven. absurd (other (sym number ∙ eleven)), λ zero. absurd (some (sym number ∙ zero)))))))))
-
-  module _ (images' list' scales' blocks' : List ℕ) (is : judge_job job (places_of images working list scales blocks) ≡ judge_fields (fields_in job)) (a : Answered (judge_fields (fields_in job)) (fields_in job) images list scales blocks answer images' list' scales' blocks') where
-    abbrev r : Refusal
-    r = judge_fields (fields_in job)
-
-    answer_number : answer.number ≡ r.number
-    answer_number = ap (λ (b : JobAnswer). b.number) a.answer_is ∙ number_by r (fields_in job)
-
-    over : answer.number ≡ 11 → StepOvershoots (start_capacity (fields_in job) answer.row) (job_steps (fields_in job)) answer.step (take answer.length list')
-    unfolding answer_by refused_answer list_by
-    over eleven =
-        let number = sym answer_number ∙ eleven in
-        let refused : answer ≡ refused_answer r = a.answer_is ∙ rw (ne_eqb r.number 0 (omega (arith, number))) in
-        let written = ap (take (length r.list)) a.list_is ∙ take_at r.list (drop (length r.list) list) (length r.list) refl in
-        rw (refused, written) (fields_overshoot (fields_in job) number)
-
-    safe : answer.number ≡ 0 → JobSafe job answer images' scales' blocks'
-    unfolding answer_by images_by scales_by blocks_by floors_written
-    safe zero =
-        let number = sym answer_number ∙ zero in
-        let pass = eq-eqb r.number 0 number in
-        let accepted : answer ≡ accepted_answer (fields_in job) = a.answer_is ∙ rw pass in
-        let written : images' ≡ job_images (fields_in job) ++ drop (job_count (fields_in job)) images = a.images_are ∙ rw pass in
-        let scaled : scales' ≡ job_scales (fields_in job) ++ drop (length (job_scales (fields_in job))) scales = a.scales_are ∙ rw pass in
-        let divided : blocks' ≡ job_block_floors (fields_in job) ++ drop (length (job_block_floors (fields_in job))) blocks = a.blocks_are ∙ rw pass in
-        rw (accepted, written, scaled, divided) (job_safe job number (drop (job_count (fields_in job)) images) (drop (length (job_scales (fields_in job))) scales) (drop (length (job_block_floors (fields_in job))) blocks))
-
-    pub judged_job : Outcome job images working list scales blocks answer images' w' list' scales' blocks'
-    unfolding job_answer images_after list_after_job scales_after blocks_after
-    judged_job =
-        let b = rw (← is) at a in
-        (b.answer_is, (b.images_are, (b.list_is, (b.scales_are, (b.blocks_are, (as_long, (over, safe)))))))
-
 -- what the code finds, in the order of the refusals
 module _ (job : List ℕ) (lent : Places) where
   pub buffers_refused : (n : ℕ) → n ≡ buffer_refusal (length job) lent → (n ≡ 0 → ⊥) → judge_job job lent ≡ plain n
   unfolding judge_job
   buffers_refused n e some = rw (← e, ne_eqb n 0 some)
 
-  module _ (buffers : buffer_refusal (length job) lent ≡ 0) (r : JobRead) (reading : JobReading job r) where
-    pub reading_refused : (r.number ≡ 0 → ⊥) → judge_job job lent ≡ plain r.number
+  module _ (buffers : buffer_refusal (length job) lent ≡ 0) where
+    pub reading_refused : (n : ℕ) → job_fields job ≡ refused n → judge_job job lent ≡ plain n
     unfolding judge_job judge_reading
-    reading_refused some = rw (buffers, reading.refused_as some)
+    reading_refused n e = rw (buffers, e)
 
-    pub reading_passed : r.number ≡ 0 → judge_job job lent ≡ judge_fields (fields_in job)
-    unfolding judge_job judge_reading fields_of
-    reading_passed none = rw (buffers, reading.complete_as none)
+    pub reading_passed : (fields : List Field) → job_fields job ≡ complete fields → judge_job job lent ≡ judge_fields fields
+    unfolding judge_job judge_reading
+    reading_passed fields e = rw (buffers, e)
+
+  -- 11 of the job is 11 of its fields
+  job_overshoots : (judge_job job lent).number ≡ 11 → StepOvershoots (start_capacity (fields_in job) (judge_job job lent).row) (job_steps (fields_in job)) (judge_job job lent).step (judge_job job lent).list
+  unfolding plain fields_of
+  job_overshoots = ⊎_elim (λ none. of_reading none (job_fields job) refl) (λ some. of_buffers some) (eq-zero-or-pos (buffer_refusal (length job) lent))
+    where
+      Over : Judgement → Type 0
+      Over r = r.number ≡ 11 → StepOvershoots (start_capacity (fields_in job) r.row) (job_steps (fields_in job)) r.step r.list
+
+      of_buffers : 0 < buffer_refusal (length job) lent → Over (judge_job job lent)
+      of_buffers some = rw (buffers_refused _ refl (omega arith)) (λ eleven. absurd (buffers_other _ lent eleven))
+
+      of_reading : buffer_refusal (length job) lent ≡ 0 → (read : Fields) → job_fields job ≡ read → Over (judge_job job lent)
+      of_reading none (refused n) e = rw (reading_refused none n e) (λ eleven. absurd (unread_other job n e eleven))
+      of_reading none (complete fields) e = rw (reading_passed none fields e, e) (fields_overshoot fields)
+
+-- the answer, by the outcome
+module _ (r : Judgement) (fields : List Field) (answer : JobAnswer) where
+  pub answer_is : (outcome : Result JobAnswer Refused) → OutcomeBy r fields outcome → MatchResult outcome (λ accepted. answer ≡ accepted) (λ e. answer ≡ record { number = number_of e.refusal; n = 0; floor = 0; sum = 0; scale = 0; step = e.step; length = e.length; row = e.row; total = 0 }) → answer ≡ answer_by r fields
+  unfolding answer_by refused_answer
+  answer_is (Ok accepted) told is = rw (eq-eqb r.number 0 told.0) (is ∙ told.1)
+  answer_is (Err e) told is =
+      let stop = ne_eqb r.number 0 (λ none. omega (arith, number_positive e.refusal, told.number_is, none)) in
+      rw (stop, ← told.number_is, ← told.row_is, ← told.step_is, ← told.length_is) is
+
+-- what the operation promises of its answer
+module _ (job : List ℕ) (lent : Places) (images list scales blocks : List ℕ) (outcome : Result JobAnswer Refused) (images' list' scales' blocks' : List ℕ) (a : Answered (judge_job job lent) (fields_in job) images list scales blocks outcome images' list' scales' blocks') (answer : JobAnswer) (is : answer ≡ answer_by (judge_job job lent) (fields_in job)) where
+  abbrev r : Judgement
+  r = judge_job job lent
+
+  answer_number : answer.number ≡ r.number
+  answer_number = ap (λ (b : JobAnswer). b.number) is ∙ number_by r (fields_in job)
+
+  pub overshoots : answer.number ≡ 11 → StepOvershoots (start_capacity (fields_in job) answer.row) (job_steps (fields_in job)) answer.step (take answer.length list')
+  unfolding answer_by refused_answer list_by
+  overshoots eleven =
+      let number = sym answer_number ∙ eleven in
+      let refused : answer ≡ refused_answer r = is ∙ rw (ne_eqb r.number 0 (omega (arith, number))) in
+      let written = ap (take (length r.list)) a.list_is ∙ take_at r.list (drop (length r.list) list) (length r.list) refl in
+      rw (refused, written) (job_overshoots job lent number)
+
+  pub safe : answer.number ≡ 0 → JobSafe job answer images' scales' blocks'
+  unfolding answer_by images_by scales_by blocks_by floors_written
+  safe zero =
+      let number = sym answer_number ∙ zero in
+      let fine = (accepted_fields job lent number).fields_accepted in
+      let pass = eq-eqb r.number 0 number in
+      let accepted : answer ≡ accepted_answer (fields_in job) = is ∙ rw pass in
+      let written : images' ≡ job_images (fields_in job) ++ drop (job_count (fields_in job)) images = a.images_are ∙ rw pass in
+      let scaled : scales' ≡ job_scales (fields_in job) ++ drop (length (job_scales (fields_in job))) scales = a.scales_are ∙ rw pass in
+      let divided : blocks' ≡ job_block_floors (fields_in job) ++ drop (length (job_block_floors (fields_in job))) blocks = a.blocks_are ∙ rw pass in
+      rw (accepted, written, scaled, divided) (job_safe job fine (drop (job_count (fields_in job)) images) (drop (length (job_scales (fields_in job))) scales) (drop (length (job_block_floors (fields_in job))) blocks))

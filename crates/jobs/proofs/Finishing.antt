@@ -1,9 +1,11 @@
 -- The images and the answer of an accepted job, from what the code computes.
+use Rattle.std.specs.Prelude.{None, Some}
+use denote.Bor.{Bor}
 use mathlib.Core.Path.{◌≡◌, ap, sym, ◌∙◌}
 use mathlib.Core.Bool.{Bool, true, false, cond}
 use mathlib.Core.List.{List, [], ◌++◌, map}
 use mathlib.Core.Logic.{inl, inr, ⊎_elim}
-use Prim.Native.Nat.{ℕ, ◌+◌, ◌-◌, ◌*◌, ◌^◌, ◌≤◌, ◌<◌}
+use Prim.Native.Nat.{ℕ, ◌+◌, ◌-◌, ◌*◌, ◌/◌, ◌^◌, ◌≤◌, ◌<◌}
 use native.Mathlib.Nat.{mul-le-mul, mul-le-mul_right}
 use native.Mathlib.Omega.{arith}
 use borrow.Author.Tests.{eq-eqb, ne_eqb}
@@ -15,18 +17,18 @@ use Rattle.functions.specs.Promise.{StepPromise}
 use Rattle.fields.specs.Bytes.{halfwords, words}
 use Rattle.fields.specs.Parts.{Field, counts_for, job_kind, job_capacity, job_sizes, job_counts, block_numbers, blocks_there, job_steps, job_rows, coefficient_count}
 use Rattle.fields.specs.Grammar.{most_sizes, most_rows, most_blocks, floor_kind, rows_kind}
-use Rattle.fields.specs.Record.{span_bytes, halfword_bytes, steps_in, PartsOf}
+use Rattle.fields.specs.Record.{steps_in, BlocksOf, PartsOf}
 use Rattle.fields.specs.declared.JobParts.{JobParts}
 use Rattle.chains.specs.Chain.{chain_image, chain_scale, chain_floor}
 use Rattle.chains.specs.Apply.{ChainAppliable, ChainApplied}
 use Rattle.chains.specs.Sizes.{NoneOrEach}
-use Rattle.blocks.specs.Block.{divide}
+use Rattle.blocks.specs.Block.{blocks_fit, divide}
 use Rattle.blocks.specs.Sums.{sum_up, counts_of, Divided, Summed}
 use Rattle.blocks.specs.declared.BlockSums.{BlockSums}
 use Rattle.blocks.proofs.Dividing.{divide_count, floors_of_images}
-use Rattle.fields.proofs.Filling.{halfwords_length_is, sizes_count}
+use Rattle.fields.proofs.Filling.{sizes_count}
 use Rattle.jobs.specs.JudgeRows.{judge_rows}
-use Rattle.jobs.specs.Job.{is_divided, judge_fields, row_scale, rows_images, job_images, job_count, job_scales, job_floor, job_blocks, job_block_floors, job_total, accepted_answer, floors_written, Finished}
+use Rattle.jobs.specs.Job.{is_divided, blocks_right, judge_fields, row_scale, rows_images, job_images, job_count, job_scales, job_floor, job_blocks, job_block_floors, job_total, accepted_answer, floors_written, Finished}
 use Rattle.jobs.specs.declared.JobAnswer.{JobAnswer}
 use Rattle.chains.proofs.Applying.{images_within}
 use Rattle.chains.proofs.Chains.{chain_promise}
@@ -66,6 +68,15 @@ pub cut_undivided : (fields : List Field) → (job_kind fields ≡ floor_kind �
 unfolding is_divided
 cut_undivided fields kind = rw (ne_eqb (job_kind fields) floor_kind kind)
 
+-- the blocks, by the parts of the job
+pub divided_right : (fields : List Field) (parts : JobParts) → PartsOf fields parts → job_kind fields ≡ floor_kind → (given : Bor (List ℕ)) → BlocksOf fields (Some given) → (right : Bool) → right ≡ blocks_fit (halfwords given.now) (length parts.sizes.now / 4) → right ≡ blocks_right fields
+unfolding blocks_right block_numbers
+divided_right fields parts h kind given divided right e = e ∙ rw (floor_divided fields kind, divided.2, divided.0, sizes_count fields parts h)
+
+pub undivided_right : (fields : List Field) → is_divided fields ≡ false → true ≡ blocks_right fields
+unfolding blocks_right
+undivided_right fields is = rw is
+
 -- without blocks nothing is written
 undivided_written : (fields : List Field) → is_divided fields ≡ false → (blocks : List ℕ) → floors_written fields blocks ≡ blocks
 unfolding floors_written
@@ -90,11 +101,11 @@ module _ (fields : List Field) (accepted : (judge_fields fields).number ≡ 0) (
   unfolding job_count
   count_of = rw (ne_eqb (job_kind fields) rows_kind list)
 
-  module _ (job : List ℕ) (parts : JobParts) (h : PartsOf job fields parts) where
-    pub appliable : ChainAppliable parts.capacity (steps_in job parts.steps) (words (span_bytes job parts.sizes))
+  module _ (parts : JobParts) (h : PartsOf fields parts) where
+    pub appliable : ChainAppliable parts.capacity (steps_in parts.steps) (words parts.sizes.now)
     appliable = rw (h.capacity_is, h.steps_are, h.sizes_are) fine
 
-    module _ (scale : ℕ) (images : List ℕ) (applied : ChainApplied parts.capacity (steps_in job parts.steps) (words (span_bytes job parts.sizes)) scale images) where
+    module _ (scale : ℕ) (images : List ℕ) (applied : ChainApplied parts.capacity (steps_in parts.steps) (words parts.sizes.now) scale images) where
       is : ChainApplied (job_capacity fields) (job_steps fields) (job_sizes fields) scale images
       is = rw (h.capacity_is, h.steps_are, h.sizes_are) at applied
 
@@ -105,13 +116,12 @@ module _ (fields : List Field) (accepted : (judge_fields fields).number ≡ 0) (
       count = ap length is.images_are ∙ length-map (job_sizes fields) _ ∙ sym count_of
 
       -- no counts, or one for each image
-      pub counted : NoneOrEach (halfword_bytes job parts.counts) (length images)
+      pub counted : NoneOrEach parts.counts.now (length images)
       counted =
-          let long = halfwords_length_is job parts.counts h.counts_within in
-          let each = sizes_count job fields parts h ∙ sym (length-map (job_sizes fields) _) ∙ sym (ap length is.images_are) in
-          ⊎_elim (λ none. inl (omega (arith, long))) (λ all. inr (omega (arith, long, each))) h.none_or_each
+          let each = sizes_count fields parts h ∙ sym (length-map (job_sizes fields) _) ∙ sym (ap length is.images_are) in
+          ⊎_elim (λ none. inl none) (λ all. inr (omega (arith, all, each, h.sizes_whole))) h.none_or_each
 
-      weighed : weighted (counts_for (halfwords (halfword_bytes job parts.counts)) (length images)) images ≡ weighted (job_counts fields) (job_images fields)
+      weighed : weighted (counts_for (halfwords parts.counts.now) (length images)) images ≡ weighted (job_counts fields) (job_images fields)
       unfolding job_counts
       weighed = rw (images_are, h.counts_given, images_count fields, count_of)
 
@@ -126,18 +136,15 @@ module _ (fields : List Field) (accepted : (judge_fields fields).number ≡ 0) (
       within_scale = rw (is.images_are, is.scale_is) (images_within promise (job_sizes fields) fine.within)
 
       few : length images ≤ most_sizes
-      few = omega (arith, h.sizes_most, sizes_count job fields parts h, ap length is.images_are, length-map (job_sizes fields) (chain_image (job_capacity fields) (job_steps fields)))
+      few = omega (arith, h.sizes_most, sizes_count fields parts h, ap length is.images_are, length-map (job_sizes fields) (chain_image (job_capacity fields) (job_steps fields)))
 
-      pub countable : NoneOrEach (halfword_bytes job parts.counts) (length images) × (length images ≤ most_sizes)
+      pub countable : NoneOrEach parts.counts.now (length images) × (length images ≤ most_sizes)
       countable = (counted, few)
 
       pub sum_bound : (sum : ℕ) → ((most : ℕ) → EachWithin most images → sum ≤ length images * (most_count * most)) → sum ≤ most_sizes * (most_count * limit)
       sum_bound sum bound = omega (arith, bound scale within_scale, mul-le-mul few (mul-le-mul_right most_count scale_range.1))
 
-      module _ (kind : parts.kind ≡ floor_kind) where
-        is_floor : job_kind fields ≡ floor_kind
-        is_floor = sym h.kind_is ∙ kind
-
+      module _ (is_floor : job_kind fields ≡ floor_kind) where
         -- the sum, rounded up, is the floor of the whole list
         whole_floor : (sum floor : ℕ) → sum ≡ weighted (job_counts fields) (job_images fields) → floor ≡ (sum up scale) → floor ≡ job_floor fields
         unfolding job_floor chain_floor
@@ -149,28 +156,34 @@ module _ (fields : List Field) (accepted : (judge_fields fields).number ≡ 0) (
             rw (eq-eqb (job_kind fields) floor_kind is_floor, ne_eqb (job_kind fields) rows_kind list, count, whole_floor sum floor summed rounded, summed, is.scale_is, added)
 
         -- without blocks the total is the floor
-        pub whole_answer : parts.divided ≡ false → (sum floor : ℕ) → sum ≡ weighted (counts_for (halfwords (halfword_bytes job parts.counts)) (length images)) images → floor ≡ (sum up scale) → record { number = 0; n = length images; floor = floor; sum = sum; scale = scale; step = 0; length = 0; row = 0; total = floor } ≡ accepted_answer fields
-        whole_answer undivided sum floor summed rounded =
-            let none = floor_divided fields is_floor ∙ sym h.blocks_are.there_is ∙ undivided in
-            let whole = summed ∙ weighed in
-            answer_of sum floor floor whole rounded (whole_floor sum floor whole rounded ∙ sym (undivided_blocks fields none).1)
+        module _ (undivided : BlocksOf fields None) where
+          none : is_divided fields ≡ false
+          none = floor_divided fields is_floor ∙ undivided.1
 
-        pub whole_written : parts.divided ≡ false → (blocks : List ℕ) → blocks ≡ floors_written fields blocks
-        whole_written undivided blocks = sym (undivided_written fields (floor_divided fields is_floor ∙ sym h.blocks_are.there_is ∙ undivided) blocks)
+          pub whole_answer : (sum floor : ℕ) → sum ≡ weighted (counts_for (halfwords parts.counts.now) (length images)) images → floor ≡ (sum up scale) → record { number = 0; n = length images; floor = floor; sum = sum; scale = scale; step = 0; length = 0; row = 0; total = floor } ≡ accepted_answer fields
+          whole_answer sum floor summed rounded =
+              let whole = summed ∙ weighed in
+              answer_of sum floor floor whole rounded (whole_floor sum floor whole rounded ∙ sym (undivided_blocks fields none).1)
 
-        module _ (there : parts.divided ≡ true) where
+          pub whole_written : (blocks : List ℕ) → blocks ≡ floors_written fields blocks
+          whole_written blocks = sym (undivided_written fields none blocks)
+
+        module _ (given : Bor (List ℕ)) (divided : BlocksOf fields (Some given)) where
+          abbrev numbers : List ℕ
+          numbers = given.now
+
           divided_so : is_divided fields ≡ true
-          divided_so = floor_divided fields is_floor ∙ sym h.blocks_are.there_is ∙ there
+          divided_so = floor_divided fields is_floor ∙ divided.2
 
-          numbers_are : halfwords (halfword_bytes job parts.blocks) ≡ block_numbers fields
+          numbers_are : halfwords numbers ≡ block_numbers fields
           unfolding block_numbers
-          numbers_are = ap halfwords h.blocks_are.given
+          numbers_are = ap halfwords divided.0
 
-          pub ready : (floors : List ℕ) → most_blocks ≤ length floors → Divided (halfword_bytes job parts.counts) (halfword_bytes job parts.blocks) images scale floors
+          pub ready : (floors : List ℕ) → most_blocks ≤ length floors → Divided parts.counts.now numbers images scale floors
           ready floors room =
               record {
                 counted = record { none_or_each = counted; few = few };
-                even = omega (arith, halfwords_length_is job parts.blocks h.blocks_are.within);
+                even = divided.1;
                 fit = rw (numbers_are, count ∙ count_of) (blocks_fine fields list accepted divided_so);
                 within = within_scale;
                 positive = scale_range.0;
@@ -179,7 +192,7 @@ module _ (fields : List Field) (accepted : (judge_fields fields).number ≡ 0) (
               }
 
           -- what was written are the floors of the blocks
-          floors_are : map (sum_up scale) (divide (halfwords (halfword_bytes job parts.blocks)) (counts_of (halfword_bytes job parts.counts) images) images) ≡ job_block_floors fields
+          floors_are : map (sum_up scale) (divide (halfwords numbers) (counts_of parts.counts.now images) images) ≡ job_block_floors fields
           unfolding job_block_floors job_counts
           floors_are =
               rw (numbers_are, divided_blocks fields divided_so, is.scale_is, h.counts_given, count ∙ count_of, is.images_are)
@@ -189,7 +202,7 @@ module _ (fields : List Field) (accepted : (judge_fields fields).number ≡ 0) (
           unfolding job_total
           total_of all e = rw divided_so e
 
-          module _ (floors : List ℕ) (sums : BlockSums) (floors' : List ℕ) (s : Summed (halfword_bytes job parts.counts) (halfword_bytes job parts.blocks) images scale floors sums floors') where
+          module _ (floors : List ℕ) (sums : BlockSums) (floors' : List ℕ) (s : Summed parts.counts.now numbers images scale floors sums floors') where
             pub blocks_answer : (floor : ℕ) → floor ≡ (sums.sum up scale) → record { number = 0; n = length images; floor = floor; sum = sums.sum; scale = scale; step = 0; length = 0; row = 0; total = sums.total } ≡ accepted_answer fields
             blocks_answer floor rounded = answer_of sums.sum floor sums.total (s.sum_is ∙ weighed) rounded (total_of sums.total (s.total_is ∙ ap total floors_are))
 
@@ -199,10 +212,10 @@ module _ (fields : List Field) (accepted : (judge_fields fields).number ≡ 0) (
                 let places = ap length numbers_are ∙ sym (floors_count fields divided_so) in
                 s.floors_are ∙ rw (floors_are, places)
 
-      pub cut_answer : (parts.kind ≡ 1 → ⊥) → record { number = 0; n = length images; floor = 0; sum = 0; scale = scale; step = 0; length = 0; row = 0; total = 0 } ≡ accepted_answer fields
+      pub cut_answer : (job_kind fields ≡ floor_kind → ⊥) → record { number = 0; n = length images; floor = 0; sum = 0; scale = scale; step = 0; length = 0; row = 0; total = 0 } ≡ accepted_answer fields
       unfolding accepted_answer
       cut_answer kind =
-          rw (ne_eqb (job_kind fields) 1 (λ one. kind (h.kind_is ∙ one)), ne_eqb (job_kind fields) rows_kind list, count, is.scale_is)
+          rw (ne_eqb (job_kind fields) floor_kind kind, ne_eqb (job_kind fields) rows_kind list, count, is.scale_is)
 
   -- behind the images, and the whole buffer of scales, nothing changes
   pub list_finished : (images scales blocks : List ℕ) (answer : JobAnswer) (images' blocks' : List ℕ) (n : ℕ) → (answer ≡ accepted_answer fields) × (images' ≡ job_images fields) × (blocks' ≡ floors_written fields blocks) → n ≡ length (job_sizes fields) → Finished fields images scales blocks answer (images' ++ drop n images) scales blocks'

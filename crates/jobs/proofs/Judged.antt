@@ -1,6 +1,9 @@
 -- What the refusals of rows and of a whole job leave of one that is accepted.
+use Rattle.std.specs.Prelude.{Result, Ok, Err}
+use Rattle.std.specs.Result.{MatchResult, IsErrAnd}
+use Rattle.std.proofs.lemmas.Result.{err_from_is_err_and}
 use mathlib.Core.Path.{◌≡◌, refl, ap, sym, ◌∙◌}
-use mathlib.Core.Bool.{Bool, true, false, cond, not, ◌&&◌, ◌||◌, and-eq-true_iff}
+use mathlib.Core.Bool.{Bool, true, false, cond, not, ◌&&◌, and-eq-true_iff}
 use mathlib.Core.List.{List, [], ◌∷◌}
 use mathlib.Core.Logic.{⊎_elim}
 use Prim.Native.Nat.{ℕ, zero, suc, ◌+◌, ◌-◌, ◌≤◌, ◌<◌}
@@ -8,20 +11,20 @@ use native.Mathlib.Nat.{eq-zero-or-pos}
 use native.Mathlib.Numerals.{add-one}
 use native.Mathlib.Omega.{arith}
 use borrow.Author.Tests.{eq-eqb, ne_eqb, leb-true}
-use lib.Dec.{leb, eqb}
+use lib.Dec.{leb}
 use lib.ListN.{length, get_or, drop, drop_of_length-le}
 use lib.Seq.{drop-cons}
 use Rattle.fields.specs.Bytes.{halfwords, words}
 use Rattle.fields.specs.Parts.{Field, value_of, Step, Row, job_kind, job_capacity, job_sizes, job_counts, block_numbers, job_steps, job_rows, coefficient_count}
-use Rattle.fields.specs.Grammar.{most_sizes, most_rows, floor_kind, rows_kind}
-use Rattle.fields.specs.Record.{span_bytes, halfword_bytes, no_span, PartsOf, no_row, row_in}
-use Rattle.fields.specs.declared.JobParts.{JobParts}
-use Rattle.fields.specs.declared.RowPlace.{RowPlace}
+use Rattle.fields.specs.Grammar.{most_sizes, most_rows, rows_kind}
+use Rattle.fields.specs.Record.{no_row, row_in}
+use Rattle.fields.specs.declared.JobRow.{JobRow}
+use Rattle.refusals.proofs.Numbers.{number_positive}
 use Rattle.chains.specs.Chain.{TablesPass}
 use Rattle.chains.specs.Apply.{ChainAppliable}
-use Rattle.chains.specs.Judge.{Refusal, plain, judge_list, StepOvershoots, verdict_of, list_by, Judged}
-use Rattle.chains.specs.declared.Verdict.{Verdict}
-use Rattle.fields.proofs.Filling.{no_counts, sizes_count}
+use Rattle.chains.specs.Judge.{Judgement, plain, judge_list, StepOvershoots, list_by, Judged}
+use Rattle.chains.specs.declared.Refused.{Refused}
+use Rattle.fields.proofs.Filling.{no_counts}
 use Rattle.chains.proofs.Judged.{tables_pass, given_judged, list_appliable, list_divided, list_none, list_overshoots}
 use Rattle.jobs.specs.Kinds.{is_kind, least_of, rows_fit}
 use Rattle.jobs.specs.JudgeRows.{judge_row, in_row, judge_rows}
@@ -53,27 +56,25 @@ module _ (S : List Step) where
   unfolding judge_row
   row_none r e = list_none 0 r.right_side r.coefficients [] true S e
 
-  -- a row judged as the list of its coefficients
-  pub row_judged : (job : List ℕ) (row : RowPlace) (k : ℕ) (list : List ℕ) (v : Verdict) (list' : List ℕ) → Judged (judge_list 0 row.capacity (words (span_bytes job row.coefficients)) (halfwords (halfword_bytes job no_span)) true S) list v list' → Judged (in_row (suc k) (judge_row S (row_in job row))) list (record { number = v.number; row = k + 1; step = v.step; length = v.length }) list'
-  unfolding judge_row row_in in_row verdict_of list_by
-  row_judged job row k list v list' j =
-      let uncounted = rw (no_counts job) at j in
-      record { verdict_is = rw (uncounted.verdict_is, add-one k); list_is = uncounted.list_is }
+  -- a row judged as the list of its coefficients, of which none is counted
+  pub row_judged : (row : JobRow) → judge_list 0 row.capacity (words row.coefficients.now) (halfwords []) true S ≡ judge_row S (row_in row)
+  unfolding judge_row row_in
+  row_judged row = ap (λ (counts : List ℕ). judge_list 0 row.capacity (words row.coefficients.now) counts true S) no_counts
 
   pub rows_accepted : (rows : List Row) (k : ℕ) → (judge_rows k S rows).number ≡ 0 → (i : ℕ) → i < length rows → (judge_row S (get_or rows i no_row)).number ≡ 0
   unfolding in_row
   rows_accepted [] k e i l = absurd (omega arith)
-  rows_accepted (r ∷ rows) k e i l = ⊎_elim (λ none. go none (rows_accepted rows (suc k) (rw (row_passes k r rows none) at e)) i l) (λ some. absurd (omega (arith, ap (λ (f : Refusal). f.number) (row_stops k r rows (omega arith)), e))) (eq-zero-or-pos (judge_row S r).number)
+  rows_accepted (r ∷ rows) k e i l = ⊎_elim (λ none. go none (rows_accepted rows (suc k) (rw (row_passes k r rows none) at e)) i l) (λ some. absurd (omega (arith, ap (λ (f : Judgement). f.number) (row_stops k r rows (omega arith)), e))) (eq-zero-or-pos (judge_row S r).number)
     where
       go : (judge_row S r).number ≡ 0 → ((j : ℕ) → j < length rows → (judge_row S (get_or rows j no_row)).number ≡ 0) → (i : ℕ) → i < suc (length rows) → (judge_row S (get_or (r ∷ rows) i no_row)).number ≡ 0
       go none next zero l = none
       go none next (suc j) l = next j (omega arith)
 
   -- 11 of rows behind k others
-  abbrev Over : ℕ → List Row → Refusal → Type 0
+  abbrev Over : ℕ → List Row → Judgement → Type 0
   Over k rows f = f.number ≡ 11 → (k < f.row) × StepOvershoots (get_or rows (f.row - suc k) no_row).right_side S f.step f.list
 
-  over_later : (k : ℕ) (r : Row) (rows : List Row) (f : Refusal) → Over (suc k) rows f → Over k (r ∷ rows) f
+  over_later : (k : ℕ) (r : Row) (rows : List Row) (f : Judgement) → Over (suc k) rows f → Over k (r ∷ rows) f
   over_later k r rows f over eleven =
       let later = over eleven in
       let place : f.row - suc k ≡ suc (f.row - suc (suc k)) = omega (arith, later.0) in
@@ -94,14 +95,17 @@ module _ (S : List Step) where
       (λ some. rw (row_stops k r rows (omega arith)) (over_here k r rows))
       (eq-zero-or-pos (judge_row S r).number)
 
-module _ (k : ℕ) (r : Refusal) (list : List ℕ) (v : Verdict) (list' : List ℕ) (j : Judged (in_row k r) list v list') where
-  pub row_number : v.number ≡ r.number
-  unfolding in_row verdict_of
-  row_number = ap (λ (u : Verdict). u.number) j.verdict_is
-
-  pub row_kept : r ≡ plain 0 → list' ≡ list
-  unfolding in_row list_by plain
-  row_kept e = j.list_is ∙ rw e
+-- judged in a row, of which the place is put into what is told
+pub in_row_judged : (k : ℕ) (r : Judgement) (list list' : List ℕ) {A : Type 0} (outcome placed : Result A Refused) → MatchResult outcome (λ value. placed ≡ Ok value) (λ e. IsErrAnd placed (λ next. next ≡ record { refusal = e.refusal; row = k + 1; step = e.step; length = e.length })) → Judged r list outcome list' → Judged (in_row (suc k) r) list placed list'
+unfolding in_row list_by
+in_row_judged k r list list' (Ok value) placed same j = rw same (record { told = j.told; list_is = j.list_is })
+in_row_judged k r list list' (Err e) placed mapped j =
+    let next = err_from_is_err_and placed mapped in
+    rw (next.1, next.2)
+    (record {
+      told = record { number_is = j.told.number_is; row_is = add-one k; step_is = j.told.step_is; length_is = j.told.length_is };
+      list_is = j.list_is;
+    })
 
 -- rows judged in order: those left decide, and behind the first no table has 8 to 11
 pub record RowsSoFar (S : List Step) (rows : List Row) (k : ℕ) : Type 0 where
@@ -117,25 +121,27 @@ module _ (S : List Step) (rows : List Row) where
       here : judge_rows 0 S rows ≡ judge_rows k S (r ∷ drop (suc k) rows)
       here = so.verdict ∙ ap (judge_rows k S) (drop-cons rows k no_row l ∙ ap (λ (x : Row). x ∷ drop (suc k) rows) is)
 
-      pub rows_refused : ((judge_row S r).number ≡ 0 → ⊥) → judge_rows 0 S rows ≡ in_row (suc k) (judge_row S r)
-      rows_refused some = here ∙ row_stops S k r (drop (suc k) rows) some
+      module _ (list list' : List ℕ) where
+        pub rows_refused : {A : Type 0} (e : Refused) → Judged {A = A} (in_row (suc k) (judge_row S r)) list (Err e) list' → Judged {A = A} (judge_rows 0 S rows) list (Err e) list'
+        unfolding in_row
+        rows_refused e j =
+            let some : (judge_row S r).number ≡ 0 → ⊥ = λ none. omega (arith, number_positive e.refusal, j.told.number_is) in
+            rw (here ∙ row_stops S k r (drop (suc k) rows) some) j
 
-      pub rows_next : (judge_row S r).number ≡ 0 → RowsSoFar S rows (k + 1)
-      rows_next none =
-          record {
-            verdict = here ∙ row_passes S k r (drop (suc k) rows) none ∙ ap (λ (i : ℕ). judge_rows i S (drop i rows)) (sym (add-one k));
-            tables = λ _. tables_pass S r.right_side (row_appliable S r none).accepted;
-          }
+        pub rows_next : {A : Type 0} (value : A) → Judged (in_row (suc k) (judge_row S r)) list (Ok value) list' → RowsSoFar S rows (k + 1) × (list' ≡ list)
+        unfolding in_row list_by plain
+        rows_next value j =
+            let none : (judge_row S r).number ≡ 0 = j.told in (
+              record {
+                verdict = here ∙ row_passes S k r (drop (suc k) rows) none ∙ ap (λ (i : ℕ). judge_rows i S (drop i rows)) (sym (add-one k));
+                tables = λ _. tables_pass S r.right_side (row_appliable S r none).accepted;
+              },
+              j.list_is ∙ rw (row_none S r none),
+            )
 
     pub rows_done : length rows ≤ k → judge_rows 0 S rows ≡ plain 0
     unfolding judge_rows
     rows_done l = so.verdict ∙ ap (judge_rows k S) (drop_of_length-le rows {i = k} l)
-
--- the blocks, by the parts of the job
-pub right_is : (job : List ℕ) (fields : List Field) (parts : JobParts) → PartsOf job fields parts → (right : Bool) → right ≡ not (eqb parts.kind floor_kind && parts.divided) || blocks_fit (halfwords (halfword_bytes job parts.blocks)) parts.sizes.n → right ≡ blocks_right fields
-unfolding blocks_right is_divided block_numbers
-right_is job fields parts h right e =
-    e ∙ rw (h.kind_is, h.blocks_are.there_is, h.blocks_are.given, sizes_count job fields parts h)
 
 -- a whole job: refused by 16 or 21, or by its list or its rows
 module _ (fields : List Field) where
@@ -150,7 +156,7 @@ module _ (fields : List Field) where
 
     pub rows_fine : (judge_fields fields).number ≡ 0 → (rows_fit (length (job_rows fields)) (coefficient_count (job_rows fields)) ≡ true) × ((judge_rows 0 (job_steps fields) (job_rows fields)).number ≡ 0)
     unfolding plain
-    rows_fine e = go (rows_fit (length (job_rows fields)) (coefficient_count (job_rows fields))) refl (sym (ap (λ (r : Refusal). r.number) rows_kind_lem) ∙ e)
+    rows_fine e = go (rows_fit (length (job_rows fields)) (coefficient_count (job_rows fields))) refl (sym (ap (λ (r : Judgement). r.number) rows_kind_lem) ∙ e)
       where
         go : (test : Bool) → rows_fit (length (job_rows fields)) (coefficient_count (job_rows fields)) ≡ test → (cond (not test) (plain 21) (judge_rows 0 (job_steps fields) (job_rows fields))).number ≡ 0 → (rows_fit (length (job_rows fields)) (coefficient_count (job_rows fields)) ≡ true) × ((judge_rows 0 (job_steps fields) (job_rows fields)).number ≡ 0)
         go true fits none = (fits, none)
@@ -167,8 +173,8 @@ module _ (fields : List Field) where
     list_accepted e = go (is_kind (job_kind fields)) refl
       where
         go : (test : Bool) → is_kind (job_kind fields) ≡ test → (judge_list (least_of (job_kind fields)) (job_capacity fields) (job_sizes fields) (halfwords (value_of 7 fields)) (blocks_right fields) (job_steps fields)).number ≡ 0
-        go true is = sym (ap (λ (r : Refusal). r.number) (list_kind is)) ∙ e
-        go false is = absurd (omega (arith, ap (λ (r : Refusal). r.number) (kind_refused is), e))
+        go true is = sym (ap (λ (r : Judgement). r.number) (list_kind is)) ∙ e
+        go false is = absurd (omega (arith, ap (λ (r : Judgement). r.number) (kind_refused is), e))
 
     pub list_fine : (judge_fields fields).number ≡ 0 → ChainAppliable (job_capacity fields) (job_steps fields) (job_sizes fields)
     list_fine e = list_appliable _ _ _ _ _ _ (list_accepted e)

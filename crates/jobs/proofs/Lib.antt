@@ -2,8 +2,9 @@ pub mod Packings
 pub mod Separate
 pub mod Promise
 pub mod Outside
+pub mod KindNumbers
 pub mod Judged
 pub mod Writing
 pub mod Finishing
-pub mod Answering
 pub mod Accepted
+pub mod Answering

@@ -1,20 +1,21 @@
 -- The job operation of document 01, "Operations and what they refuse", and document 02, requests 1, 4 and 6: the answer, and what the lent buffers
 -- hold afterwards.
-use Rattle.std.specs.Prelude.{Bool, cond, not, ◌&&◌, ◌||◌, ◌≡◌, List, [], ◌∷◌, ◌++◌, map, ℕ, ◌-◌, ◌≤◌, ◌<◌, ltb, eqb, length, get_or, take, drop}
+use Rattle.std.specs.Prelude.{Bool, cond, Result, Ok, Err, not, ◌&&◌, ◌||◌, ◌≡◌, List, [], ◌∷◌, ◌++◌, map, ℕ, ◌-◌, ◌≤◌, ◌<◌, ltb, eqb, length, get_or, take, drop}
 use Rattle.functions.specs.Words.{total, weighted}
 use Rattle.tables.specs.Check.{most_entries}
 use Rattle.fields.specs.Bytes.{words}
 use Rattle.fields.specs.Parts.{Field, Step, Row, job_kind, job_capacity, job_sizes, job_counts, block_numbers, blocks_there, job_steps, job_rows, coefficient_count}
 use Rattle.fields.specs.Grammar.{most_bytes, most_sizes, most_rows, most_blocks, floor_kind, rows_kind}
 use Rattle.fields.specs.Reading.{Fields, refused, complete, job_fields, fields_of}
-use Rattle.fields.specs.Record.{no_row, span_bytes, steps_in, PartsOf}
+use Rattle.fields.specs.Record.{no_row, steps_in, PartsOf}
 use Rattle.fields.specs.declared.JobParts.{JobParts}
 use Rattle.chains.specs.Chain.{chain_image, chain_scale, chain_floor}
 use Rattle.chains.specs.Apply.{ChainApplied}
 use Rattle.blocks.specs.Block.{blocks_fit, Block, divide, block_floor}
 use Rattle.jobs.specs.Packing.{FloorSafe, TotalSafe}
 use Rattle.jobs.specs.Kinds.{is_kind, least_of, rows_fit}
-use Rattle.chains.specs.Judge.{Refusal, plain, judge_list, list_by}
+use Rattle.chains.specs.Judge.{Judgement, plain, judge_list, list_by, RefusedAs}
+use Rattle.chains.specs.declared.Refused.{Refused}
 use Rattle.jobs.specs.JudgeRows.{judge_rows}
 use Rattle.jobs.specs.declared.JobAnswer.{JobAnswer}
 
@@ -30,7 +31,7 @@ unfoldable pub blocks_right : List Field → Bool
 blocks_right fields = not (is_divided fields) || blocks_fit (block_numbers fields) (length (job_sizes fields))
 
 -- the kind, then capacity, sizes, counts, blocks and steps, or the number of rows and each of them
-unfoldable pub judge_fields : List Field → Refusal
+unfoldable pub judge_fields : List Field → Judgement
 judge_fields fields =
     cond (not (is_kind (job_kind fields))) (plain 16)
     (cond (eqb (job_kind fields) rows_kind)
@@ -38,7 +39,7 @@ judge_fields fields =
     (judge_rows 0 (job_steps fields) (job_rows fields)))
     (judge_list (least_of (job_kind fields)) (job_capacity fields) (job_sizes fields) (job_counts fields) (blocks_right fields) (job_steps fields)))
 
-unfoldable pub judge_reading : Fields → Refusal
+unfoldable pub judge_reading : Fields → Judgement
 judge_reading (refused number) = plain number
 judge_reading (complete fields) = judge_fields fields
 
@@ -60,7 +61,7 @@ buffer_refusal bytes lent =
     cond (ltb most_bytes bytes) 12
     (cond (ltb lent.images most_sizes || ltb lent.working most_entries || ltb lent.list (most_entries - 1) || ltb lent.scales most_rows || ltb lent.blocks most_blocks) 7 0)
 
-unfoldable pub judge_job : List ℕ → Places → Refusal
+unfoldable pub judge_job : List ℕ → Places → Judgement
 judge_job job lent =
     cond (eqb (buffer_refusal (length job) lent) 0)
     (judge_reading (job_fields job))
@@ -119,37 +120,37 @@ accepted_answer fields =
       total = cond (eqb (job_kind fields) floor_kind) (job_total fields) 0;
     }
 
-unfoldable pub refused_answer : Refusal → JobAnswer
+unfoldable pub refused_answer : Judgement → JobAnswer
 refused_answer r = record { number = r.number; n = 0; floor = 0; sum = 0; scale = 0; step = r.step; length = length r.list; row = r.row; total = 0 }
 
 -- what is answered where `r` refuses a job or its number is 0, and what the buffers hold then: the image buffer the images in its
 -- first places, that of scales the rows' scales, and that of blocks the blocks' floors, unless the job is refused; the list buffer the list of 11
-unfoldable pub answer_by : Refusal → List Field → JobAnswer
+unfoldable pub answer_by : Judgement → List Field → JobAnswer
 answer_by r fields = cond (eqb r.number 0) (accepted_answer fields) (refused_answer r)
 
-unfoldable pub images_by : Refusal → List Field → List ℕ → List ℕ
+unfoldable pub images_by : Judgement → List Field → List ℕ → List ℕ
 images_by r fields images = cond (eqb r.number 0) (job_images fields ++ drop (job_count fields) images) images
 
-unfoldable pub scales_by : Refusal → List Field → List ℕ → List ℕ
+unfoldable pub scales_by : Judgement → List Field → List ℕ → List ℕ
 scales_by r fields scales = cond (eqb r.number 0) (job_scales fields ++ drop (length (job_scales fields)) scales) scales
 
 -- the floors of blocks in the first places of their buffer
 unfoldable pub floors_written : List Field → List ℕ → List ℕ
 floors_written fields blocks = job_block_floors fields ++ drop (length (job_block_floors fields)) blocks
 
-unfoldable pub blocks_by : Refusal → List Field → List ℕ → List ℕ
+unfoldable pub blocks_by : Judgement → List Field → List ℕ → List ℕ
 blocks_by r fields blocks = cond (eqb r.number 0) (floors_written fields blocks) blocks
 
 -- the parts of an accepted job that is a list or one row, and of a floor job with its images
-pub record ListReady (job : List ℕ) (parts : JobParts) : Type 0 where
-  pub parts_are : PartsOf job (fields_in job) parts
-  pub accepted : (judge_fields (fields_in job)).number ≡ 0
-  pub no_rows : job_kind (fields_in job) ≡ rows_kind → ⊥
+pub record ListReady (fields : List Field) (parts : JobParts) : Type 0 where
+  pub parts_are : PartsOf fields parts
+  pub accepted : (judge_fields fields).number ≡ 0
+  pub no_rows : job_kind fields ≡ rows_kind → ⊥
 
-pub record FloorReady (job : List ℕ) (parts : JobParts) (scale : ℕ) (images : List ℕ) : Type 0 where
-  pub list : ListReady job parts
-  pub is_floor : parts.kind ≡ floor_kind
-  pub applied : ChainApplied parts.capacity (steps_in job parts.steps) (words (span_bytes job parts.sizes)) scale images
+pub record FloorReady (fields : List Field) (parts : JobParts) (scale : ℕ) (images : List ℕ) : Type 0 where
+  pub list : ListReady fields parts
+  pub is_floor : job_kind fields ≡ floor_kind
+  pub applied : ChainApplied parts.capacity (steps_in parts.steps) (words parts.sizes.now) scale images
 
 -- an accepted job finished: the answer, the image buffer, that of scales and that of blocks
 pub record Finished (fields : List Field) (images scales blocks : List ℕ) (answer : JobAnswer) (images' scales' blocks' : List ℕ) : Type 0 where
@@ -158,8 +159,13 @@ pub record Finished (fields : List Field) (images scales blocks : List ℕ) (ans
   pub scales_are : scales' ≡ job_scales fields ++ drop (length (job_scales fields)) scales
   pub blocks_are : blocks' ≡ floors_written fields blocks
 
-pub record Answered (r : Refusal) (fields : List Field) (images list scales blocks : List ℕ) (answer : JobAnswer) (images' list' scales' blocks' : List ℕ) : Type 0 where
-  pub answer_is : answer ≡ answer_by r fields
+-- the answer where `r` accepts the job, or what is told of its refusal
+abbrev pub OutcomeBy : Judgement → List Field → Result JobAnswer Refused → Type 0
+OutcomeBy r fields (Ok answer) = (r.number ≡ 0) × (answer ≡ accepted_answer fields)
+OutcomeBy r fields (Err e) = RefusedAs r e
+
+pub record Answered (r : Judgement) (fields : List Field) (images list scales blocks : List ℕ) (outcome : Result JobAnswer Refused) (images' list' scales' blocks' : List ℕ) : Type 0 where
+  pub outcome_is : OutcomeBy r fields outcome
   pub images_are : images' ≡ images_by r fields images
   pub list_is : list' ≡ list_by r list
   pub scales_are : scales' ≡ scales_by r fields scales

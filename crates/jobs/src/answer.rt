@@ -1,12 +1,16 @@
-// A job that was read: judged, and only then applied.
-ghost use Rattle.std.specs.Prelude.{◌≡◌, not, ◌&&◌, ◌||◌, ◌≤◌, eqb, length};
-ghost use Rattle.fields.specs.Bytes.{halfwords};
-ghost use Rattle.fields.specs.Grammar.{most_sizes, most_rows, most_blocks, floor_kind};
-ghost use Rattle.fields.specs.Record.{halfword_bytes, HalfwordsWithin, PartsOf, Stand};
-ghost use Rattle.blocks.specs.Block.{blocks_fit};
+// A job read, judged, and only then applied. What `JobRead` says of a job's parts stands in contracts: as a
+// ghost field of the parts it would need the job beside them.
+ghost use Rattle.std.specs.Prelude.{◌≡◌, List, ◌*◌, length};
+ghost use Rattle.refusals.specs.Number.{number_in};
+ghost use Rattle.fields.specs.Parts.{Field};
+ghost use Rattle.fields.specs.Record.{PartsOf, JobRead};
+ghost use Rattle.chains.specs.Judge.{Judged};
 ghost use Rattle.jobs.specs.Job.{
   fields_in,
+  blocks_right,
   judge_fields,
+  judge_job,
+  places_of,
   job_images,
   accepted_answer,
   buffer_refusal,
@@ -16,93 +20,81 @@ ghost use Rattle.jobs.specs.Job.{
   Finished,
   Answered,
 };
-ghost use Rattle.chains.specs.Judge.{Judged, CheckRoom};
-ghost use Rattle.jobs.specs.Kinds.{is_kind, least_of};
+ghost use Rattle.jobs.specs.Kinds.{kind_number};
 
-use crate::{JobAnswer, LIST_PLACES, rows};
+use crate::kind::JobKind;
+use crate::{JobAnswer, rows};
+use chains::{LIST_PLACES, Refused, SizeList};
+use fields::{JobParts, MOST_BLOCKS, MOST_ROWS, MOST_SIZES};
+use refusals::Refusal;
+use tables::MOST_ENTRIES;
 
 // Refusals 12 and 7.
 #[tactic(auto, unfolding(crate::specs::Job::buffer_refusal))]
-pub(crate) fn refuse_buffers(
+fn refuse_buffers(
     bytes: usize,
     images: usize,
     working: usize,
     list: usize,
     scales: usize,
     blocks: usize,
-) -> u64
-    ensures { result ≡ buffer_refusal bytes
+) -> Result<(), Refusal>
+    ensures { number_in result ≡ buffer_refusal bytes
         (record { images = images; working = working; list = list; scales = scales; blocks = blocks }) }
 {
     if fields::MOST_BYTES < bytes {
-        return 12;
+        return Err(Refusal::JobTooLong);
     }
-    if images < fields::MOST_SIZES {
-        return 7;
+    let short = images < MOST_SIZES
+        || working < MOST_ENTRIES
+        || list < LIST_PLACES
+        || scales < MOST_ROWS
+        || blocks < MOST_BLOCKS;
+    if short {
+        return Err(Refusal::BufferTooShort);
     }
-    if working < tables::MOST_ENTRIES {
-        return 7;
-    }
-    if list < LIST_PLACES {
-        return 7;
-    }
-    if scales < fields::MOST_ROWS {
-        return 7;
-    }
-    if blocks < fields::MOST_BLOCKS {
-        return 7;
-    }
-    0
+    Ok(())
 }
 
-fn is_kind(kind: u8) -> bool
-    ensures { result ≡ is_kind kind }
+// Whether the blocks of a floor job divide its list; true where it has none.
+fn blocks_right(kind: JobKind, parts: JobParts<'_>) -> bool
+    requires { (fields : List Field) × PartsOf fields parts × (kind_number kind ≡ parts.kind) }
+    ensures { (fields : List Field) → PartsOf fields parts.entry → kind_number kind ≡ parts.entry.kind
+        → result ≡ blocks_right fields }
 {
-    if kind == fields::FLOOR_KIND {
-        return true;
+    match (kind, parts.blocks) {
+        (JobKind::Floor, Some(numbers)) => blocks::blocks_fit(numbers, parts.sizes.len() / 4),
+        _ => true,
     }
-    if kind == 2 {
-        return true;
-    }
-    kind == fields::ROWS_KIND
 }
 
-fn least_of(kind: u8) -> u64
-    ensures { result ≡ least_of kind }
+// The job judged by its parts: its list or its rows.
+fn judge_parts(
+    job: &[u8],
+    kind: JobKind,
+    parts: JobParts<'_>,
+    working: &mut [u64; MOST_ENTRIES],
+    list: &mut [u32; LIST_PLACES],
+) -> Result<(), Refused>
+    requires { JobRead job.now parts × (kind_number kind ≡ parts.kind) }
+    ensures { Judged (judge_fields (fields_in job.now)) list.old result list.new }
 {
-    if kind == fields::FLOOR_KIND {
-        return 1;
-    }
-    0
-}
-
-pub(crate) fn refused(verdict: chains::Verdict) -> JobAnswer
-    ensures { result ≡ record {
-      number = verdict.number;
-      n = 0;
-      floor = 0;
-      sum = 0;
-      scale = 0;
-      step = verdict.step;
-      length = verdict.length;
-      row = verdict.row;
-      total = 0;
-    } }
-{
-    JobAnswer {
-        number: verdict.number,
-        n: 0,
-        floor: 0,
-        sum: 0,
-        scale: 0,
-        step: verdict.step,
-        length: verdict.length,
-        row: verdict.row,
-        total: 0,
+    match kind {
+        JobKind::Rows => rows::judge_all(job, parts, working, list),
+        _ => {
+            let size_list = SizeList {
+                capacity: parts.capacity,
+                least: kind.least(),
+                sizes: parts.sizes,
+                counts: parts.counts,
+                divided: blocks_right(kind, parts),
+            };
+            chains::judge::judge_list(parts.steps, false, size_list, working, list)
+        }
     }
 }
 
-fn accepted(n: u64, floor: u64, sum: u64, scale: u64, total: u64) -> JobAnswer
+fn accepted(n: usize, floor: u64, sum: u64, scale: u64, total: u64) -> JobAnswer
     ensures { result ≡ record {
       number = 0;
       n = n;
@@ -117,7 +109,7 @@ fn accepted(n: u64, floor: u64, sum: u64, scale: u64, total: u64) -> JobAnswer
 {
     JobAnswer {
         number: 0,
-        n,
+        n: n as u64,
         floor,
         sum,
         scale,
@@ -128,156 +120,134 @@ fn accepted(n: u64, floor: u64, sum: u64, scale: u64, total: u64) -> JobAnswer
     }
 }
 
-// A floor job with a field of blocks.
-fn is_divided(kind: u8, there: bool) -> bool
-    ensures { result ≡ (eqb kind floor_kind && there) }
-{
-    kind == fields::FLOOR_KIND && there
-}
-
-// Whether the blocks divide a list of so many sizes; true where it is not divided.
-fn blocks_right(job: &[u8], divided: bool, blocks: fields::Span, sizes: usize) -> bool
-    requires { HalfwordsWithin job.now blocks }
-    ensures { result ≡ (not divided || blocks_fit (halfwords (halfword_bytes job.now blocks)) sizes) }
-{
-    if !divided {
-        return true;
-    }
-    blocks::blocks_fit(fields::halfword_bytes(job, blocks), sizes)
-}
-
-// The job judged by its parts: its kind, and then its list or its rows.
-fn judge_parts(
-    job: &[u8],
-    parts: fields::JobParts,
-    working: &mut [u64],
-    list: &mut [u32],
-) -> chains::Verdict
-    requires { PartsOf job.now (fields_in job.now) parts
-        × Stand job.now 0 (fields_in job.now) (length job.now) × CheckRoom working.old list.old }
-    ensures { Judged (judge_fields (fields_in job.now)) list.old result list.new }
-{
-    let kind = parts.kind;
-    if !is_kind(kind) {
-        return chains::judge::plain(16);
-    }
-    let steps = parts.steps;
-    if kind == fields::ROWS_KIND {
-        return rows::judge_all(job, steps, parts.rows, parts.coefficients, working, list);
-    }
-    let least = least_of(kind);
-    let capacity = parts.capacity;
-    let divided = is_divided(kind, parts.divided);
-    let right = blocks_right(job, divided, parts.blocks, parts.sizes.n);
-    chains::judge::judge_list(
-        job,
-        steps,
-        capacity,
-        parts.sizes,
-        parts.counts,
-        right,
-        least,
-        false,
-        working,
-        list,
-    )
-}
-
 // The answer of an accepted floor job, from the images and their scale; the floor of each block goes
 // into `floors`.
 fn floor_answer(
-    job: &[u8],
-    parts: fields::JobParts,
+    parts: JobParts<'_>,
     scale: u64,
     images: &[u32],
-    floors: &mut [u32],
+    floors: &mut [u32; MOST_BLOCKS],
 ) -> JobAnswer
-    requires { FloorReady job.now parts scale images.now × (most_blocks ≤ length floors.old) }
-    ensures { (result ≡ accepted_answer (fields_in job.now))
-        × (floors.new ≡ floors_written (fields_in job.now) floors.old) }
+    requires { (fields : List Field) × FloorReady fields parts scale images.now }
+    ensures { (fields : List Field) → FloorReady fields parts.entry scale images.now
+        → (result ≡ accepted_answer fields) × (floors.new ≡ floors_written fields floors.old) }
 {
-    let n = images.len() as u64;
-    let counts = fields::halfword_bytes(job, parts.counts);
-    if parts.divided {
-        let numbers = fields::halfword_bytes(job, parts.blocks);
-        let sums = blocks::write_floors(counts, numbers, images, scale, floors);
-        let whole = functions::round_up(sums.sum, scale);
-        return accepted(n, whole, sums.sum, scale, sums.total);
+    let n = images.len();
+    match parts.blocks {
+        Some(numbers) => {
+            let sums = blocks::write_floors(parts.counts, numbers, images, scale, &mut floors[..]);
+            let whole = functions::round_up(sums.sum, scale);
+            accepted(n, whole, sums.sum, scale, sums.total)
+        }
+        None => {
+            let sum = chains::list::sum_of(parts.counts, images);
+            let floor = functions::round_up(sum, scale);
+            accepted(n, floor, sum, scale, floor)
+        }
     }
-    let sum = chains::list::sum_of(counts, images);
-    let floor = functions::round_up(sum, scale);
-    accepted(n, floor, sum, scale, floor)
 }
 
 // The images and the answer of an accepted list; `images` has as many places as the job has sizes.
 fn finish_list(
-    job: &[u8],
-    parts: fields::JobParts,
+    kind: JobKind,
+    parts: JobParts<'_>,
     images: &mut [u32],
-    floors: &mut [u32],
+    floors: &mut [u32; MOST_BLOCKS],
 ) -> JobAnswer
-    requires { ListReady job.now parts × (length images.old ≡ parts.sizes.n)
-        × (most_blocks ≤ length floors.old) }
-    ensures { (result ≡ accepted_answer (fields_in job.now))
-        × (images.new ≡ job_images (fields_in job.now))
-        × (floors.new ≡ floors_written (fields_in job.now) floors.old) }
+    requires { (fields : List Field) × ListReady fields parts × (kind_number kind ≡ parts.kind)
+        × (length parts.sizes.now ≡ 4 * length images.old) }
+    ensures { (fields : List Field) → ListReady fields parts.entry
+        → kind_number kind ≡ parts.entry.kind → (result ≡ accepted_answer fields)
+        × (images.new ≡ job_images fields) × (floors.new ≡ floors_written fields floors.old) }
 {
-    let steps = parts.steps;
-    let scale = chains::apply::map_list(job, steps, parts.capacity, parts.sizes, images);
-    if parts.kind == fields::FLOOR_KIND {
-        return floor_answer(job, parts, scale, images, floors);
+    let scale = chains::apply::map_list(parts.steps, parts.capacity, parts.sizes, images);
+    match kind {
+        JobKind::Floor => floor_answer(parts, scale, images, floors),
+        _ => accepted(images.len(), 0, 0, scale, 0),
     }
-    accepted(images.len() as u64, 0, 0, scale, 0)
 }
 
 // The images and the answer of an accepted job.
 fn finish(
     job: &[u8],
-    parts: fields::JobParts,
-    images: &mut [u32],
-    scales: &mut [u32],
-    blocks: &mut [u32],
+    kind: JobKind,
+    parts: JobParts<'_>,
+    images: &mut [u32; MOST_SIZES],
+    scales: &mut [u32; MOST_ROWS],
+    blocks: &mut [u32; MOST_BLOCKS],
 ) -> JobAnswer
-    requires { PartsOf job.now (fields_in job.now) parts
-        × Stand job.now 0 (fields_in job.now) (length job.now)
-        × ((judge_fields (fields_in job.now)).number ≡ 0)
-        × (most_sizes ≤ length images.old) × (most_rows ≤ length scales.old)
-        × (most_blocks ≤ length blocks.old) }
+    requires { JobRead job.now parts × (kind_number kind ≡ parts.kind)
+        × ((judge_fields (fields_in job.now)).number ≡ 0) }
     ensures { Finished (fields_in job.now)
         images.old scales.old blocks.old result
         images.new scales.new blocks.new }
 {
-    if parts.kind == fields::ROWS_KIND {
-        let steps = parts.steps;
-        rows::write_rows(job, steps, parts.rows, images, scales);
-        return accepted(parts.coefficients as u64, 0, 0, 0, 0);
+    match kind {
+        JobKind::Rows => {
+            rows::write_rows(job, parts, images, scales);
+            accepted(parts.coefficients, 0, 0, 0, 0)
+        }
+        _ => {
+            let n = parts.sizes.len() / 4;
+            finish_list(kind, parts, &mut images[..n], blocks)
+        }
     }
-    let n = parts.sizes.n;
-    finish_list(job, parts, &mut images[..n], blocks)
 }
 
-// The job judged by its parts, and applied where nothing refuses it.
-pub(crate) fn answer_parts(
+// The job judged by its parts, and applied where nothing refuses it. The lengths stay by the arrays'
+// types, but of a slice's first chunk a caller knows them by this clause alone.
+fn answer_parts(
     job: &[u8],
-    parts: fields::JobParts,
+    parts: JobParts<'_>,
+    images: &mut [u32; MOST_SIZES],
+    working: &mut [u64; MOST_ENTRIES],
+    list: &mut [u32; LIST_PLACES],
+    scales: &mut [u32; MOST_ROWS],
+    blocks: &mut [u32; MOST_BLOCKS],
+) -> Result<JobAnswer, Refused>
+    requires { JobRead job.now parts }
+    ensures answered { Answered (judge_fields (fields_in job.now)) (fields_in job.now)
+        images.old list.old scales.old blocks.old result
+        images.new list.new scales.new blocks.new }
+    ensures lengths { (length images.new ≡ length images.old)
+        × (length list.new ≡ length list.old) × (length scales.new ≡ length scales.old)
+        × (length blocks.new ≡ length blocks.old) }
+{
+    let kind = JobKind::try_from(parts.kind)?;
+    judge_parts(job, kind, parts, working, list)?;
+    Ok(finish(job, kind, parts, images, scales, blocks))
+}
+
+// The buffers, the fields and then the parts of a job, in the order of the refusals.
+pub(crate) fn answer_job(
+    job: &[u8],
     images: &mut [u32],
     working: &mut [u64],
     list: &mut [u32],
     scales: &mut [u32],
     blocks: &mut [u32],
-) -> JobAnswer
-    requires { PartsOf job.now (fields_in job.now) parts
-        × Stand job.now 0 (fields_in job.now) (length job.now)
-        × (most_sizes ≤ length images.old) × (most_rows ≤ length scales.old)
-        × (most_blocks ≤ length blocks.old) × CheckRoom working.old list.old }
-    ensures answered { Answered (judge_fields (fields_in job.now)) (fields_in job.now)
+) -> Result<JobAnswer, Refused>
+    ensures { Answered (judge_job job.now
+        (places_of images.old working.old list.old scales.old
+        blocks.old))
+        (fields_in job.now)
         images.old list.old scales.old blocks.old result
         images.new list.new scales.new blocks.new }
-    ensures working { length working.new ≡ length working.old }
 {
-    let verdict = judge_parts(job, parts, working, list);
-    if verdict.number != 0 {
-        return refused(verdict);
-    }
-    finish(job, parts, images, scales, blocks)
+    refuse_buffers(
+        job.len(),
+        images.len(),
+        working.len(),
+        list.len(),
+        scales.len(),
+        blocks.len(),
+    )?;
+    let parts = fields::read_job(job)?;
+    // No buffer is shorter, by 7: the arrays' types keep that.
+    let images = images.first_chunk_mut().unwrap();
+    let working = working.first_chunk_mut().unwrap();
+    let list = list.first_chunk_mut().unwrap();
+    let scales = scales.first_chunk_mut().unwrap();
+    let blocks = blocks.first_chunk_mut().unwrap();
+    answer_parts(job, parts, images, working, list, scales, blocks)
 }

@@ -3,9 +3,11 @@
 #![tactic(auto)]
 
 mod answer;
+mod kind;
 mod rows;
 
 ghost use Rattle.std.specs.Prelude.{◌≡◌, length, take};
+ghost use Rattle.refusals.specs.Number.{number_of};
 ghost use Rattle.fields.specs.Parts.{job_steps};
 ghost use Rattle.chains.specs.Judge.{StepOvershoots};
 ghost use Rattle.jobs.specs.Job.{
@@ -20,10 +22,11 @@ ghost use Rattle.jobs.specs.Job.{
   JobSafe,
 };
 
-// The least places of a list buffer: a counterexample has at most as many sizes as its table's capacity.
-pub const LIST_PLACES: usize = tables::MOST_ENTRIES - 1;
+// The least places of a list buffer.
+pub use chains::LIST_PLACES;
+use chains::Refused;
 
-// The answer to a job: the number that refuses it, or 0 with the number of sizes or coefficients, the
+// The answer to a job, as C reads it: the number that refuses it, or 0 with the number of sizes or coefficients, the
 // lower bound on bins, the sum of images and the scale; the place of a refused step, the length of the
 // list, and the place of a refused row; the total of the blocks' lower bounds.
 #[repr(C)]
@@ -38,6 +41,34 @@ pub struct JobAnswer {
     pub length: u64,
     pub row: u64,
     pub total: u64,
+}
+
+impl From<Refused> for JobAnswer {
+    ghost from_gives = { λ refused answer. answer ≡ record {
+      number = number_of refused.refusal;
+      n = 0;
+      floor = 0;
+      sum = 0;
+      scale = 0;
+      step = refused.step;
+      length = refused.length;
+      row = refused.row;
+      total = 0;
+    } };
+
+    fn from(refused: Refused) -> JobAnswer {
+        JobAnswer {
+            number: refused.refusal.number(),
+            n: 0,
+            floor: 0,
+            sum: 0,
+            scale: 0,
+            step: refused.step,
+            length: refused.length,
+            row: refused.row,
+            total: 0,
+        }
+    }
 }
 
 // The job operation: a job is judged whole before any image is written. `images` has at least
@@ -77,21 +108,5 @@ pub fn windowfloor_job(
     ensures safe { result.number ≡ 0 →
         JobSafe job.now result images.new scales.new blocks.new }
 {
-    let number = answer::refuse_buffers(
-        job.len(),
-        images.len(),
-        working.len(),
-        list.len(),
-        scales.len(),
-        blocks.len(),
-    );
-    if number != 0 {
-        return answer::refused(chains::judge::plain(number));
-    }
-    let read = fields::read_job(job);
-    if read.number != 0 {
-        return answer::refused(chains::judge::plain(read.number));
-    }
-    let parts = read.parts;
-    answer::answer_parts(job, parts, images, working, list, scales, blocks)
+    answer::answer_job(job, images, working, list, scales, blocks).unwrap_or_else(JobAnswer::from)
 }

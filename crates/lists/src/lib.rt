@@ -1,57 +1,58 @@
 // A list of sizes with a count for each, lent by a caller outside of a job.
 #![tactic(auto)]
 
-ghost use Rattle.std.specs.Prelude.{◌≡◌};
+mod sizes;
+
+ghost use Rattle.std.specs.Prelude.{◌≡◌, IfOk};
+ghost use Rattle.refusals.specs.Number.{number_in};
 ghost use Rattle.chains.specs.Sizes.{sizes_within, counts_positive};
 ghost use Rattle.lists.specs.Counted.{counted_refusal};
+
+use refusals::Refusal;
+pub use sizes::CountedSizes;
 
 // Whether each size is from 1 to the capacity.
 fn sizes_fit(capacity: u64, sizes: &[u32]) -> bool
     ensures { result ≡ sizes_within 1 capacity sizes.now }
 {
-    let mut i = 0;
-    while i < sizes.len() {
-        let x = sizes[i] as u64;
-        if x < 1 {
-            return false;
-        }
-        if capacity < x {
-            return false;
-        }
-        i += 1;
-    }
-    true
+    sizes
+        .iter()
+        .all(|size| 1 <= *size && u64::from(*size) <= capacity)
 }
 
 // Whether each count is 1 or more.
 fn counts_fit(counts: &[u16]) -> bool
     ensures { result ≡ counts_positive counts.now }
 {
-    let mut i = 0;
-    while i < counts.len() {
-        if counts[i] < 1 {
-            return false;
-        }
-        i += 1;
-    }
-    true
+    counts.iter().all(|count| 1 <= *count)
 }
 
-// Refusals 6, 17 and 22 of a list and its counts, in this order.
-pub fn refuse_counted(capacity: u64, sizes: &[u32], counts: &[u16]) -> u64
-    ensures { result ≡ counted_refusal capacity sizes.now counts.now }
+// The list with its counts at a capacity that passed: refusals 6, 17 and 22, in this order.
+#[tactic(auto, unfolding(crate::specs::Counted::counted_refusal))]
+pub fn counted<'a>(
+    capacity: u64,
+    sizes: &'a [u32],
+    counts: &'a [u16],
+) -> Result<CountedSizes<'a>, Refusal>
+    ensures number { number_in result ≡ counted_refusal capacity sizes.now counts.now }
+    ensures list { IfOk result (λ l. (l.capacity ≡ capacity) × (l.sizes.now ≡ sizes.now)
+        × (l.counts.now ≡ counts.now)) }
 {
     if fields::MOST_SIZES < sizes.len() {
-        return 6;
+        return Err(Refusal::ListLength);
     }
     if counts.len() != sizes.len() {
-        return 6;
+        return Err(Refusal::ListLength);
     }
     if !sizes_fit(capacity, sizes) {
-        return 17;
+        return Err(Refusal::Size);
     }
     if !counts_fit(counts) {
-        return 22;
+        return Err(Refusal::Count);
     }
-    0
+    Ok(CountedSizes {
+        capacity,
+        sizes,
+        counts,
+    })
 }

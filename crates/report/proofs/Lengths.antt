@@ -1,11 +1,12 @@
 -- How long a text is.
 use mathlib.Core.Path.{◌≡◌, ap, ◌∙◌}
-use mathlib.Core.Logic.{⊎_elim}
+use mathlib.Core.Logic.{◌⊎◌, inl, inr}
 use mathlib.Core.Bool.{Bool, true, false, cond}
 use mathlib.Core.List.{List, [], ◌∷◌, ◌++◌, map, append_assoc}
-use Prim.Native.Nat.{ℕ, zero, suc, ◌+◌, ◌*◌, ◌/◌, ◌^◌, ◌≤◌, ◌<◌}
-use native.Mathlib.Nat.{eq-zero-or-pos, pow-suc}
+use Prim.Native.Nat.{ℕ, zero, suc, ◌+◌, ◌*◌, ◌/◌, ◌%◌, ◌^◌, ◌≤◌, ◌<◌}
+use native.Mathlib.Nat.{pow-suc}
 use native.Mathlib.Omega.{arith}
+use borrow.Author.Tests.{lt-ltb, le-ltb}
 use lib.Dec.{eqb}
 use lib.ListN.{length, get_or, take, length-append, length-take}
 use lib.Seq.{take-append_seam, get_or-append-add}
@@ -15,21 +16,25 @@ use Rattle.fields.specs.Grammar.{most_sizes, most_blocks, rows_kind}
 use Rattle.jobs.specs.Job.{row_images, row_scale, rows_images}
 use Rattle.jobs.specs.declared.JobAnswer.{JobAnswer}
 use Rattle.jobs.proofs.Writing.{row_count}
-use Rattle.report.specs.Text.{most_digits, decimal, values_text, line, floor_word, sum_word, scale_word, images_word, blocks_word, refused_word, list_word, floor_text, cut_text, accepted_text, blocks_text, rows_text, row_values, refused_text, most_text}
+use Rattle.report.specs.Text.{most_digits, digits, decimal, values_text, line, floor_word, sum_word, scale_word, images_word, blocks_word, refused_word, list_word, floor_text, cut_text, accepted_text, blocks_text, rows_text, row_values, refused_text, most_text}
 use Rattle.report.specs.Answer.{refusal_of}
-use Rattle.report.proofs.Decimals.{lead, lead_none, lead_some, last_digit}
+use Rattle.functions.proofs.Cases.{lt_or_ge}
 
-digits_more : (n : ℕ) → length (decimal n) ≡ length (lead (n / 10)) + 1
-digits_more n = ap length (last_digit n) ∙ length-append (lead (n / 10)) _
+digits_short : (j k n : ℕ) → n < 10 ^ suc k → length (digits j n) ≤ suc k
+unfolding digits
+digits_short zero k n l = omega arith
+digits_short (suc j) k n l = go (lt_or_ge n 10) k l (λ k. digits_short j k (n / 10))
+  where
+    go : (n < 10) ⊎ (10 ≤ n) → (k : ℕ) → n < 10 ^ suc k → ((k : ℕ) → n / 10 < 10 ^ suc k → length (digits j (n / 10)) ≤ suc k) → length (digits (suc j) n) ≤ suc k
+    go (inl one) k l before = rw (lt-ltb n 10 one) (omega arith)
+    go (inr more) zero l before = absurd (omega (arith, l, more))
+    go (inr more) (suc k) l before =
+        rw (le-ltb n 10 more) (omega (arith, length-append (digits j (n / 10)) ((48 + n % 10) ∷ []), before k (omega (arith, l, pow-suc 10 (suc k)))))
 
 -- a number below 10 ^ k has at most k digits
 decimal_short : (k n : ℕ) → n < 10 ^ suc k → length (decimal n) ≤ suc k
-decimal_short zero n l = omega (arith, l, digits_more n, ap length (lead_none (n / 10) (omega (arith, l))))
-decimal_short (suc k) n l =
-    ⊎_elim
-    (λ none. omega (arith, digits_more n, ap length (lead_none (n / 10) none)))
-    (λ some. omega (arith, digits_more n, ap length (lead_some (n / 10) some), decimal_short k (n / 10) (omega (arith, l, pow-suc 10 (suc k)))))
-    (eq-zero-or-pos (n / 10))
+unfolding decimal
+decimal_short k n l = digits_short (suc n) k n l
 
 -- values of at most k digits each
 values_length : (k : ℕ) (values : List ℕ) → ((i : ℕ) → get_or values i 0 < 10 ^ suc k) → length (values_text values) ≤ (k + 2) * length values

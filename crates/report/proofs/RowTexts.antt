@@ -12,6 +12,13 @@ use Rattle.jobs.specs.Job.{fields_in, row_images, row_scale, rows_images}
 use Rattle.jobs.proofs.Writing.{row_count, rows_count, images_at, value_at, counts_first, counts_next}
 use Rattle.report.specs.Answer.{RowsHeld}
 
+-- there is a scale for each row
+pub scales_there : (job images scales : List ℕ) → RowsHeld job images scales → length (job_rows (fields_in job)) ≤ length scales
+scales_there job images scales h =
+    let S = job_steps (fields_in job) in
+    let rows = job_rows (fields_in job) in
+    omega (arith, ap length h.scales_held, length-append (map (row_scale S) rows) h.more_scales, length-map rows (row_scale S))
+
 module _ (job images scales : List ℕ) (h : RowsHeld job images scales) (k place n : ℕ) (place_is : place ≡ coefficient_count (take k (job_rows (fields_in job)))) (l : k < length (job_rows (fields_in job))) (long : n ≡ length (get_or (job_rows (fields_in job)) k no_row).coefficients) where
   abbrev S : List Step
   S = job_steps (fields_in job)
@@ -27,9 +34,6 @@ module _ (job images scales : List ℕ) (h : RowsHeld job images scales) (k plac
 
   pub images_there : place + n ≤ length images
   images_there = omega (arith, next_place, counts_first rows (suc k), ap length h.images_held, length-append (rows_images S rows) h.more_images, rows_count S rows)
-
-  pub scale_there : k < length scales
-  scale_there = omega (arith, ap length h.scales_held, length-append (map (row_scale S) rows) h.more_scales, length-map rows (row_scale S))
 
   pub scale_held : get_or scales k 0 ≡ row_scale S (get_or rows k no_row)
   scale_held = ap (λ (s : List ℕ). get_or s k 0) h.scales_held ∙ value_at (row_scale S) no_row rows k h.more_scales l

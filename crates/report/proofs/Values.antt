@@ -1,12 +1,11 @@
 -- Values put one after the other, and lines of them.
 use mathlib.Core.Path.{◌≡◌, refl, ap, sym, ◌∙◌}
 use mathlib.Core.List.{List, [], ◌∷◌, ◌++◌, append_assoc, append-nil}
-use Prim.Native.Nat.{ℕ, ◌+◌, ◌-◌, ◌≤◌, ◌<◌}
+use Prim.Native.Nat.{ℕ, ◌+◌, ◌≤◌, ◌<◌}
 use native.Mathlib.Numerals.{add-one}
-use native.Mathlib.Omega.{arith}
-use lib.ListN.{length, get_or, take, drop, length-drop}
+use lib.ListN.{length, get_or, take}
 use lib.Seq.{take-suc, take_all}
-use Rattle.report.specs.Text.{most_digits, decimal, values_text, line}
+use Rattle.report.specs.Text.{decimal, values_text, line}
 use Rattle.report.specs.Put.{Put}
 use Rattle.report.proofs.Puts.{put_none, put_then}
 
@@ -29,12 +28,6 @@ values_next values i p l q =
 
 pub values_all : {old out : List ℕ} {at next : ℕ} (values : List ℕ) (i : ℕ) → Put old at (values_text (take i values)) out next → length values ≤ i → Put old at (values_text values) out next
 values_all values i p l = rw (take_all i values l) at p
-
--- a space, and the part of a buffer that has the digits
-pub spaced : {old out new : List ℕ} {at next end : ℕ} (n first : ℕ) (buffer : List ℕ) → length buffer ≡ most_digits → drop first buffer ≡ decimal n → Put old at (32 ∷ []) out next → Put out next (take (most_digits - first) (drop first buffer)) new end → Put old at (32 ∷ decimal n) new end
-spaced n first buffer long is p q =
-    let part : take (most_digits - first) (drop first buffer) ≡ decimal n = take_all (most_digits - first) (drop first buffer) (simp length-drop (omega (arith, long))) ∙ is in
-    put_then p (rw part at q)
 
 -- a line in three puts
 pub line_put : {old a b new : List ℕ} {at i j end : ℕ} (word values : List ℕ) → Put old at word a i → Put a i (values_text values) b j → Put b j (10 ∷ []) new end → Put old at (line word values) new end

@@ -4,7 +4,7 @@ use Rattle.tables.specs.Check.{most_entries}
 use Rattle.fields.specs.Parts.{job_kind, job_steps, job_rows, coefficient_count}
 use Rattle.fields.specs.Grammar.{most_sizes, most_rows, most_blocks, rows_kind}
 use Rattle.fields.specs.Reading.{complete, job_fields}
-use Rattle.chains.specs.Judge.{Refusal}
+use Rattle.chains.specs.Judge.{Judgement}
 use Rattle.jobs.specs.Job.{fields_in, is_divided, row_scale, rows_images, job_block_floors}
 use Rattle.jobs.specs.declared.JobAnswer.{JobAnswer}
 use Rattle.report.specs.Put.{Put}
@@ -47,7 +47,7 @@ pub record Printable (job : List ℕ) (answer : JobAnswer) (images list scales b
   pub blocks_held : answer.number ≡ 0 → BlocksHeld job blocks
 
 -- the refusal that an answer tells
-unfoldable pub refusal_of : JobAnswer → List ℕ → Refusal
+unfoldable pub refusal_of : JobAnswer → List ℕ → Judgement
 refusal_of answer list = record { number = answer.number; row = answer.row; step = answer.step; list = take answer.length list }
 
 -- what is printed of an answer, with the image and list buffers that it speaks of

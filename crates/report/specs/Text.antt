@@ -3,7 +3,7 @@ use Rattle.std.specs.Prelude.{Bool, cond, List, [], ◌∷◌, ◌++◌, ℕ, ze
 use Rattle.tables.specs.Check.{most_entries}
 use Rattle.fields.specs.Parts.{Field, Step, Row, job_kind, job_steps, job_rows}
 use Rattle.fields.specs.Grammar.{most_sizes, most_rows, most_blocks, rows_kind}
-use Rattle.chains.specs.Judge.{Refusal}
+use Rattle.chains.specs.Judge.{Judgement}
 use Rattle.jobs.specs.Job.{fields_in, is_divided, judge_job, row_images, row_scale, job_images, job_block_floors, accepted_answer}
 use Rattle.jobs.specs.declared.JobAnswer.{JobAnswer}
 
@@ -75,7 +75,7 @@ unfoldable pub row_values : ℕ → ℕ → List ℕ
 row_values fourth row = cond (eqb fourth rows_kind) (row ∷ []) []
 
 -- number, row and step, and for 11 the list
-unfoldable pub refused_text : ℕ → Refusal → List ℕ
+unfoldable pub refused_text : ℕ → Judgement → List ℕ
 refused_text fourth r =
     line refused_word (r.number ∷ (row_values fourth r.row ++ (r.step ∷ [])))
     ++ cond (eqb r.number 11) (line list_word r.list) []
@@ -95,7 +95,7 @@ unfoldable pub fourth_byte : List ℕ → ℕ
 fourth_byte job = get_or job 3 0
 
 -- what refuses a job, with lent buffers of the least lengths that 7 lets pass
-unfoldable pub handed_over : List ℕ → Refusal
+unfoldable pub handed_over : List ℕ → Judgement
 handed_over job = judge_job job (record { images = most_sizes; working = most_entries; list = most_entries - 1; scales = most_rows; blocks = most_blocks })
 
 -- all that is printed for a job

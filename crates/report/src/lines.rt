@@ -1,4 +1,5 @@
-// The lines of a text: a word, values with one space before each, and the line's end.
+// The lines of a text: a word, values with one space before each, and the line's end. The kind is the byte
+// that the job has it in, as the definition of the text reads it.
 ghost use Rattle.std.specs.Prelude.{◌≡◌, [], ◌∷◌, ◌++◌, ◌≤◌, length};
 ghost use Rattle.fields.specs.Parts.{job_steps, job_rows};
 ghost use Rattle.fields.specs.Record.{Stand};
@@ -77,33 +78,32 @@ fn put_blocks(out: &mut [u8], at: usize, job: &[u8], kind: u8, blocks: &[u32]) -
     if kind != fields::FLOOR_KIND {
         return at;
     }
-    let read = fields::read_job(job);
-    if !read.parts.divided {
-        return at;
+    let Ok(parts) = fields::read_job(job) else {
+        unreachable!()
+    };
+    match parts.blocks {
+        Some(numbers) => put_list_line(out, at, b"blocks", &blocks[..numbers.len() / 2]),
+        None => at,
     }
-    let n = read.parts.blocks.n;
-    put_list_line(out, at, b"blocks", &blocks[..n])
 }
 
 // The cuts of all rows: each one's images stand behind those of the row before.
 fn put_rows(out: &mut [u8], job: &[u8], rows: usize, images: &[u32], scales: &[u32]) -> usize
     requires { RowsHeld job.now images.now scales.now
-        × Stand job.now 0 (fields_in job.now) (length job.now)
+        × Stand job.now (fields_in job.now) []
         × (rows ≡ length (job_rows (fields_in job.now))) }
     ensures { Put out.old 0 (rows_text (job_steps (fields_in job.now))
         (job_rows (fields_in job.now))) out.new result }
 {
-    let mut at = 0;
+    let mut rest = job;
     let mut place = 0;
     let mut next = 0;
-    let mut k = 0;
-    while k < rows {
-        let row = fields::rows::next_row(job, at);
-        let end = place + row.coefficients.n;
-        next = put_cut(out, next, scales[k] as u64, &images[place..end]);
+    for scale in &scales[..rows] {
+        let row = fields::rows::next_row(rest);
+        let end = place + row.coefficients.len() / 4;
+        next = put_cut(out, next, u64::from(*scale), &images[place..end]);
         place = end;
-        at = row.next;
-        k += 1;
+        rest = row.rest;
     }
     next
 }
@@ -114,8 +114,10 @@ fn put_job_rows(out: &mut [u8], job: &[u8], images: &[u32], scales: &[u32]) -> u
     ensures { Put out.old 0 (rows_text (job_steps (fields_in job.now))
         (job_rows (fields_in job.now))) out.new result }
 {
-    let read = fields::read_job(job);
-    put_rows(out, job, read.parts.rows, images, scales)
+    let Ok(parts) = fields::read_job(job) else {
+        unreachable!()
+    };
+    put_rows(out, job, parts.rows, images, scales)
 }
 
 // A refusal's row, where the fourth byte is the kind of rows.
@@ -158,10 +160,7 @@ fn put_refused(out: &mut [u8], fourth: u8, answer: jobs::JobAnswer, list: &[u32]
 fn fourth_byte(job: &[u8]) -> u8
     ensures { result ≡ fourth_byte job.now }
 {
-    if job.len() < 4 {
-        return 0;
-    }
-    job[3]
+    job.get(3).copied().unwrap_or(0)
 }
 
 // The lines of an answer: the kind is the job's fourth byte, and the images, the list, the scales and

@@ -1,11 +1,11 @@
 // Bytes, numbers and lists of numbers put into a buffer from a place on, as far as they fit. Each
-// function answers the next place.
-ghost use Rattle.std.specs.Prelude.{◌≡◌, [], ◌∷◌, ◌+◌, ◌%◌, ◌≤◌, length, drop};
-ghost use Rattle.report.specs.Text.{most_digits, decimal, values_text};
+// function answers the next place. Buffer and place stand apart: beside a `&mut` in a struct no ghost field
+// can say that the place is within.
+ghost use Rattle.std.specs.Prelude.{[], ◌∷◌, ◌≤◌, length};
+ghost use Rattle.report.specs.Text.{decimal, values_text};
 ghost use Rattle.report.specs.Put.{Put};
 
-// The most digits of a number.
-const MOST_DIGITS: usize = 20;
+use itoa::Buffer;
 
 pub(crate) fn put_byte(out: &mut [u8], at: usize, byte: u8) -> usize
     requires { at ≤ length out.old }
@@ -23,34 +23,10 @@ pub(crate) fn put_bytes(out: &mut [u8], at: usize, bytes: &[u8]) -> usize
     ensures { Put out.old at bytes.now out.new result }
 {
     let mut next = at;
-    let mut i = 0;
-    while i < bytes.len() {
-        next = put_byte(out, next, bytes[i]);
-        i += 1;
+    for byte in bytes {
+        next = put_byte(out, next, *byte);
     }
     next
-}
-
-fn last_digit(n: u64) -> u8
-    ensures { result ≡ 48 + n % 10 }
-{
-    48 + (n % 10) as u8
-}
-
-// Puts a number's digits at the end of `digits`, and answers the place of the first.
-fn spell(n: u64, digits: &mut [u8]) -> usize
-    requires { length digits.old ≡ most_digits }
-    ensures { (result ≤ most_digits) × (drop result digits.new ≡ decimal n) }
-{
-    let mut at = MOST_DIGITS - 1;
-    digits[at] = last_digit(n);
-    let mut rest = n / 10;
-    while 0 < rest {
-        at -= 1;
-        digits[at] = last_digit(rest);
-        rest /= 10;
-    }
-    at
 }
 
 // One space and the number.
@@ -58,10 +34,9 @@ pub(crate) fn put_value(out: &mut [u8], at: usize, n: u64) -> usize
     requires { at ≤ length out.old }
     ensures { Put out.old at (32 ∷ decimal n) out.new result }
 {
-    let mut digits = [0u8; MOST_DIGITS];
-    let first = spell(n, &mut digits);
+    let mut digits = Buffer::new();
     let next = put_byte(out, at, b' ');
-    put_bytes(out, next, &digits[first..])
+    put_bytes(out, next, digits.format(n).as_bytes())
 }
 
 pub(crate) fn put_values(out: &mut [u8], at: usize, values: &[u32]) -> usize
@@ -69,10 +44,8 @@ pub(crate) fn put_values(out: &mut [u8], at: usize, values: &[u32]) -> usize
     ensures { Put out.old at (values_text values.now) out.new result }
 {
     let mut next = at;
-    let mut i = 0;
-    while i < values.len() {
-        next = put_value(out, next, values[i] as u64);
-        i += 1;
+    for value in values {
+        next = put_value(out, next, u64::from(*value));
     }
     next
 }

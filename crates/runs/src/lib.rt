@@ -1,53 +1,103 @@
-// Lists of numbers in a text, as the case programs read them: k and k runs (count, first, step), in
-// decimal. The numbers of a run go on by its step, mod 2^32, those of the next come behind them, and what
-// does not fit is ignored.
+// Lists in a text, as the case programs read them: n k and k runs, in decimal. The list has n places. A run is a
+// count of places and the numbers that say what they hold; those of the next run come behind them, and what does
+// not fit is ignored.
 #![tactic(auto)]
 
-ghost use Rattle.std.specs.Prelude.{◌≤◌, length};
+ghost use Rattle.std.specs.Prelude.{◌≡◌, ◌≤◌, ◌<◌, length, min};
+ghost use Rattle.decimal.specs.Reading.{number};
+ghost use Rattle.runs.specs.Forward.{ReadsForward};
 
-// The most numbers of a list, more than one of sizes may have, and the most runs.
+use decimal::Numbers;
+
+// The most numbers of a list, more than one of sizes may have.
 pub const MOST_NUMBERS: usize = 2_100;
 
-// Fills a run from a place on, as far as it fits, and answers the place behind it.
-fn put_run(list: &mut [u32], from: usize, count: u64, first: u32, step: u32) -> usize
-    requires { from ≤ length list.old }
-    ensures { result ≤ length list.old }
+// Reads so many runs and has the numbers behind each count put into its places.
+fn put_each<T, F: Fn(&mut Numbers<'_>, &mut [T])>(
+    numbers: &mut Numbers<'_>,
+    places: &mut [T],
+    runs: usize,
+    put: F,
+)
+    requires callable { F.IsAlwaysCallable put }
+    requires forward { ReadsForward (F.post put) }
+    ensures { length numbers.new ≤ length numbers.old }
 {
-    let end = from + buffers::at_most(count, list.len() - from);
-    buffers::fill(&mut list[from..end], first, step);
-    end
-}
-
-// Fills the runs from a place of the text on and answers the place behind them.
-fn put_runs(text: &[u8], from: usize, list: &mut [u32], runs: usize) -> usize
-    ensures { from ≤ result }
-{
-    let mut at = from;
-    let mut end = 0;
+    let mut from = 0;
     for _ in 0..runs {
-        let count = decimal::number_at(text, at);
-        let first = decimal::number_at(text, count.next);
-        let step = decimal::number_at(text, first.next);
-        let low = buffers::low_bits(first.value);
-        end = put_run(list, end, count.value, low, buffers::low_bits(step.value));
-        at = step.next;
+        let end = from + buffers::at_most(numbers.next_number(), places.len() - from);
+        put(numbers, &mut places[from..end]);
+        from = end;
     }
-    at
 }
 
-// Makes a list from k and the runs at a place and answers the place behind them.
-pub fn put_list(text: &[u8], at: usize, list: &mut [u32]) -> usize
-    ensures { at ≤ result }
+// Reads a list into the front of a buffer, which has no fewer places and runs than are taken.
+pub fn put_runs<'a, T, F: Fn(&mut Numbers<'_>, &mut [T])>(
+    numbers: &mut Numbers<'_>,
+    buffer: &'a mut [T],
+    put: F,
+) -> &'a mut [T]
+    requires callable { F.IsAlwaysCallable put }
+    requires forward { ReadsForward (F.post put) }
+    ensures size { length result.now ≡ min (number numbers.old) (length buffer.old) }
+    ensures forward { length numbers.new ≤ length numbers.old }
+    ensures onward { 0 < length numbers.old → length numbers.new < length numbers.old }
 {
-    let k = decimal::number_at(text, at);
-    put_runs(text, k.next, list, buffers::at_most(k.value, MOST_NUMBERS))
+    let [n, k] = numbers.next_numbers::<2>();
+    let size = buffers::at_most(n, buffer.len());
+    let runs = buffers::at_most(k, buffer.len());
+    let list = &mut buffer[..size];
+    put_each(numbers, list, runs, put);
+    list
 }
 
-// Makes the numbers in the same way, and of them the counts, mod 2^16.
-pub fn put_counts(text: &[u8], at: usize, numbers: &mut [u32], counts: &mut [u16]) -> usize
-    ensures { at ≤ result }
+// Reads a list of runs (count, first, step), whose numbers go on by their step, mod 2^32.
+pub fn put_list<'a>(numbers: &mut Numbers<'_>, buffer: &'a mut [u32]) -> &'a mut [u32]
+    ensures size { length result.now ≡ min (number numbers.old) (length buffer.old) }
+    ensures forward { length numbers.new ≤ length numbers.old }
+    ensures onward { 0 < length numbers.old → length numbers.new < length numbers.old }
 {
-    let end = put_list(text, at, numbers);
-    buffers::fill_halves(counts, numbers);
-    end
+    put_runs(numbers, buffer, |numbers, run| {
+        let [first, step] = numbers.next_numbers::<2>();
+        buffers::fill(run, buffers::low_bits(first), buffers::low_bits(step));
+    })
+}
+
+// Reads counts in the same way, mod 2^16.
+pub fn put_counts<'a>(numbers: &mut Numbers<'_>, buffer: &'a mut [u16]) -> &'a mut [u16]
+    ensures size { length result.now ≡ min (number numbers.old) (length buffer.old) }
+    ensures forward { length numbers.new ≤ length numbers.old }
+    ensures onward { 0 < length numbers.old → length numbers.new < length numbers.old }
+{
+    put_runs(numbers, buffer, |numbers, run| {
+        let [first, step] = numbers.next_numbers::<2>();
+        buffers::fill_halves(run, buffers::low_bits(first), buffers::low_bits(step));
+    })
+}
+
+#[cfg(test)]
+mod tests {
+    use super::*;
+
+    #[test]
+    fn reads_lists(rt: HostRuntime) {
+        let mut numbers = Numbers::new(b"6 2 2 7 0 9 5 1 3 1 2 70000 1");
+        let mut buffer = [9u32; 8];
+        let list = put_list(&mut numbers, &mut buffer);
+        assert_eq!(rt; &*list, [7, 7, 5, 6, 7, 8].as_slice());
+        let mut buffer = [0u16; 8];
+        let counts = put_counts(&mut numbers, &mut buffer);
+        assert_eq!(rt; &*counts, [4_464, 4_465, 0].as_slice());
+        assert!(rt; numbers.is_done());
+    }
+
+    #[test]
+    fn reads_a_list_of_bytes(rt: HostRuntime) {
+        let mut numbers = Numbers::new(b"3 1 2 65");
+        let mut buffer = [0u8; 8];
+        let bytes = put_runs(&mut numbers, &mut buffer, |numbers, run| {
+            run.fill(buffers::low_byte(numbers.next_number()));
+        });
+        assert_eq!(rt; &*bytes, b"AA\0".as_slice());
+    }
 }

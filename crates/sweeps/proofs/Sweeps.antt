@@ -1,4 +1,5 @@
 -- The sweep: the best parameter so far, turn by turn, and the safety of the largest floor.
+use Rattle.std.specs.Prelude.{Option, Some, None, IfSome, ok_or}
 use mathlib.Core.Path.{◌≡◌, subst, refl, ap, sym, ◌∙◌}
 use mathlib.Core.Bool.{Bool, true, false, cond, not, ◌&&◌, ◌||◌, false≢true}
 use mathlib.Core.List.{List, [], ◌∷◌, ◌++◌, map, append-nil}
@@ -10,26 +11,25 @@ use native.Mathlib.Omega.{arith}
 use borrow.Author.Tests.{ltb-false, eqb-true, eq-eqb, ne_eqb}
 use lib.Dec.{leb, ltb, eqb}
 use lib.ListN.{length}
-use Rattle.functions.specs.Words.{limit, capacity_fits, most_count, weighted, EachWithin}
-use Rattle.functions.specs.Families.{◌up◌, family_image, family_scale}
-use Rattle.functions.specs.Image.{family_refusal, family_answer}
-use Rattle.functions.specs.Promise.{FamilyPromise}
+use Rattle.functions.specs.Words.{limit, capacity_fits, most_count, EachWithin}
+use Rattle.functions.specs.Families.{◌up◌, family_scale}
+use Rattle.functions.specs.Image.{family_refusal}
 use Rattle.functions.specs.Summed.{Carriable}
-use Rattle.functions.specs.declared.FamilyAnswer.{FamilyAnswer}
-use Rattle.functions.proofs.Answers.{number_is, scale_is}
-use Rattle.functions.proofs.Carried.{accepted_before}
 use Rattle.functions.proofs.Cases.{lt_or_ge, not_refused, neither, of_both, then_zero}
 use Rattle.functions.proofs.Legal.{passed, capacity_bounds}
 use Rattle.functions.proofs.Mapped.{map_append}
-use Rattle.functions.proofs.Promise.{family_promise}
 use Rattle.fields.specs.Parts.{on_family}
 use Rattle.chains.specs.Chain.{step_image, step_scale, step_refusal, chain_image, chain_scale, ChainAccepted, chain_floor}
 use Rattle.jobs.specs.Packing.{copies, Fits, bins_used}
 use Rattle.lists.specs.Counted.{counted_refusal, CountedList}
 use Rattle.lists.proofs.Passed.{counted, of_counted}
 use Rattle.sweeps.specs.Sweep.{widest, range_refusal, sweep_refusal, sweep_floor, passes, passing, largest, first_with, refused_sweep, best_of, sweep_answer}
-use Rattle.sweeps.specs.Progress.{SweepSum, SumAt, SumBefore, Better, WithParameter}
+use Rattle.refusals.specs.declared.Refusal.TheVariants.{NoParameterPasses}
+use Rattle.sweeps.specs.Progress.{SumAt, Better, SweptTo, floors, answer_of, told}
 use Rattle.sweeps.specs.declared.SweepAnswer.{SweepAnswer}
+use Rattle.sweeps.specs.declared.sweep.Best.{Best}
+use Rattle.sweeps.specs.declared.sweep.Sweep.{Sweep}
+use Rattle.sweeps.specs.declared.sweep.Swept.{Swept}
 use Rattle.jobs.proofs.Promise.{chain_is_safe}
 use Rattle.chains.proofs.SizeTests.{sizes_most}
 
@@ -117,86 +117,57 @@ module _ (c : ℕ) (sizes counts : List ℕ) (fine : CountedList c sizes counts)
   carriable = record { one_each = fine.one_each; few_counts = omega (arith, fine.few); few_sums = omega (arith, fine.few) }
 
 -- p passes exactly where its step is accepted
-pub passes_accepted : (c family p : ℕ) → passes c family p ≡ true → family_refusal c family p 0 ≡ 0
+pub refused_fails : (c family p : ℕ) → (family_refusal c family p 0 ≡ 0 → ⊥) → passes c family p ≡ false
 unfolding passes step_refusal
-passes_accepted c family p e = eqb-true _ 0 e
+refused_fails c family p some = ne_eqb _ 0 some
 
 pub accepted_passes : (c family p : ℕ) → family_refusal c family p 0 ≡ 0 → passes c family p ≡ true
 unfolding passes step_refusal
 accepted_passes c family p e = eq-eqb _ 0 e
 
-pub sweep_sum : {c family p sum : ℕ} {sizes counts : List ℕ} → (sum ≡ weighted counts (map (family_image c family p 0) sizes)) × (sum ≤ length sizes * (most_count * limit)) → SweepSum c family sizes counts p sum
-sweep_sum h = record { sum_is = h.0; sum_most = h.1 }
-
--- family 1: where p passes, so does the number before it, and its sum is at hand
-module _ (c p : ℕ) (l : 1 ≤ p) (e : passes c 1 p ≡ true) where
-  same : p - 1 + 1 ≡ p
-  same = omega arith
-
-  pub accepted_next : family_refusal c 1 (p - 1 + 1) 0 ≡ 0
-  accepted_next = rw same (passes_accepted c 1 p e)
-
-  pub carried_on : (sizes counts : List ℕ) (sum : ℕ) → (sum ≡ weighted counts (map (family_image c 1 (p - 1 + 1) 0) sizes)) × (sum ≤ length sizes * (most_count * limit)) → SweepSum c 1 sizes counts p sum
-  carried_on sizes counts sum h = sweep_sum (rw same at h)
-
-pub sum_before : (c family : ℕ) (sizes counts : List ℕ) (p sum : ℕ) → 1 ≤ p → SumAt c family sizes counts (p - 1) sum → SumBefore c family sizes counts p sum
-sum_before c family sizes counts p sum l at one e =
-    let here : SumAt c 1 sizes counts (p - 1) sum = rw one at at in
-    here (accepted_passes c 1 (p - 1) (accepted_before c (p - 1) (accepted_next c p l e)))
-
-module _ (c family : ℕ) (sizes counts : List ℕ) where
-  abbrev floors : ℕ → ℕ
-  floors = sweep_floor c family sizes counts
-
-  -- a turn of the loop: the step with p judged
-  module _ (p : ℕ) (judged : FamilyAnswer) (judged-is : judged ≡ family_answer c family p 0) where
-    number : judged.number ≡ family_refusal c family p 0
-    number = number_is c family p 0 judged judged-is
-
-    pub turn_fails : (judged.number ≡ 0 → ⊥) → passes c family p ≡ true → ⊥
-    turn_fails some e = some (number ∙ passes_accepted c family p e)
-
-    pub turn_refused : (best : SweepAnswer) → (judged.number ≡ 0 → ⊥) → WithParameter best c family sizes counts p best
-    unfolding passes step_refusal
-    turn_refused best some ps is = rw (ne_eqb (family_refusal c family p 0) 0 (λ e. some (number ∙ e)), append-nil ps) is
-
-    module _ (none : judged.number ≡ 0) where
-      pub turn_accepted : family_refusal c family p 0 ≡ 0
-      turn_accepted = sym number ∙ none
-
-      promise : FamilyPromise c family p 0
-      promise = family_promise c family p 0 turn_accepted
-
-      scale_family : judged.scale ≡ family_scale c family p 0
-      scale_family = scale_is c family p 0 judged judged-is turn_accepted
-
-      pub turn_passes : passes c family p ≡ true
-      turn_passes = accepted_passes c family p turn_accepted
-
-      -- the floor as the code computes it
-      module _ (fine : CountedList c sizes counts) (sum : ℕ) (summed : SweepSum c family sizes counts p sum) where
-        pub roundable : (0 < judged.scale) × (sum + (judged.scale - 1) < 2 ^ 64)
-        roundable =
-            (omega (arith, scale_family, promise.scale_positive), omega (arith, scale_family, promise.scale_within_limit, summed.sum_most, fine.few))
-
-        pub floor_is : (floor : ℕ) → floor ≡ (sum up judged.scale) → floor ≡ floors p
-        unfolding sweep_floor chain_floor chain_image chain_scale step_image step_scale
-        floor_is floor rounded = rounded ∙ rw (summed.sum_is, scale_family)
-
-      pub turn_better : (best next : SweepAnswer) (floor : ℕ) → floor ≡ floors p → Better best floor p next → WithParameter best c family sizes counts p next
-      turn_better best next floor floored better ps is = rw turn_passes (better floors ps is floored)
-
--- p is better than the best so far, or not
-module _ (best : SweepAnswer) (floor p : ℕ) where
-  pub better_found : (best.number ≡ 0 → best.floor < floor) → Better best floor p (record { number = 0; floor = floor; p = p })
-  better_found better f ps is floored = rw floored (best_replaced f best p ps is (λ found. omega (arith, better found, floored)))
-
-  pub better_kept : best.number ≡ 0 → floor ≤ best.floor → Better best floor p best
-  better_kept found l f ps is floored = best_kept f best p ps is found (omega (arith, floored))
-
 pub passing_next : (c family low i : ℕ) → passing c family low (i + 1) ≡ passing c family low i ++ cond (passes c family (low + i)) ((low + i) ∷ []) []
 unfolding passing
 passing_next c family low i = rw add-one
+
+-- the floor of a step that passes, as the code computes it
+pub floor_is : (s : Sweep) (p sum scale floor : ℕ) → SumAt s p sum → scale ≡ family_scale s.list.capacity s.family p 0 → floor ≡ (sum up scale) → floor ≡ floors s p
+unfolding sweep_floor chain_floor chain_image chain_scale step_image step_scale
+floor_is s p sum scale floor summed scaled rounded = rounded ∙ rw (summed.sum_is, scaled)
+
+-- p is better than the best so far, or not
+module _ (floor p : ℕ) where
+  pub better_found : (best : Option Best) → IfSome best (λ so_far. so_far.floor < floor) → Better best floor p (record { floor = floor; p = p })
+  better_found None better f ps is floored = rw floored (best_replaced f _ p ps is (λ found. absurd (omega arith)))
+  better_found (Some so_far) better f ps is floored = rw floored (best_replaced f _ p ps is (λ _. omega (arith, better, floored)))
+
+  pub better_kept : (best : Best) → floor ≤ best.floor → Better (Some best) floor p best
+  better_kept best l f ps is floored = best_kept f _ p ps is refl (omega (arith, floored))
+
+-- before the loop
+pub swept_none : (s : Sweep) → SweptTo s 0 (record { best = None; sum = None })
+unfolding passing best_of
+swept_none s = record { best_is = refl; sum_before = tt }
+
+-- a turn of the loop
+module _ (s : Sweep) (n : ℕ) (swept : Swept) (done : SweptTo s n swept) where
+  abbrev here : ℕ
+  here = s.low + n
+
+  next : passing s.list.capacity s.family s.low (n + 1) ≡ passing s.list.capacity s.family s.low n ++ cond (passes s.list.capacity s.family here) (here ∷ []) []
+  next = passing_next s.list.capacity s.family s.low n
+
+  pub turn_fails : (family_refusal s.list.capacity s.family here 0 ≡ 0 → ⊥) → SweptTo s (n + 1) (record { best = swept.best; sum = None })
+  turn_fails some =
+      let fails : passes s.list.capacity s.family here ≡ false = refused_fails s.list.capacity s.family here some in
+      record { best_is = rw (next, fails, append-nil (passing s.list.capacity s.family s.low n)) done.best_is; sum_before = tt }
+
+  pub turn_passes : (best : Best) (sum floor : ℕ) → family_refusal s.list.capacity s.family here 0 ≡ 0 → SumAt s here sum → floor ≡ floors s here → Better swept.best floor here best → SweptTo s (n + 1) (record { best = Some best; sum = Some sum })
+  turn_passes best sum floor accepted summed floored better =
+      let behind : s.low + (n + 1) - 1 ≡ here = omega arith in
+      record {
+        best_is = rw (next, accepted_passes s.list.capacity s.family here accepted) (better (floors s) _ done.best_is floored);
+        sum_before = (omega arith, rw behind summed);
+      }
 
 -- what bounds the floor of each p that passes bounds the largest
 largest_most : (f : ℕ → ℕ) (k c family low : ℕ) → ((p : ℕ) → passes c family p ≡ true → f p ≤ k) → (n : ℕ) → largest (map f (passing c family low n)) ≤ k
@@ -272,6 +243,7 @@ module _ (c family : ℕ) (sizes counts : List ℕ) (low high : ℕ) where
         (λ some. rw (sweep_refused (omega arith)) zero-le)
         (eq-zero-or-pos (sweep_refusal c family sizes counts low high))
 
--- an answer that is the definition's is safe too
-pub sweep_promised : (c family : ℕ) (sizes counts : List ℕ) (low high : ℕ) (r : SweepAnswer) → r ≡ sweep_answer c family sizes counts low high → (r ≡ sweep_answer c family sizes counts low high) × ((bins : List ℕ) → Fits c (copies counts sizes) bins → r.floor ≤ bins_used bins)
-sweep_promised c family sizes counts low high r e = (e, λ bins fits. rw e (sweep_is_safe c family sizes counts low high bins fits))
+-- what is told of a range that none passes, and of a best parameter
+pub told_is : (best : Option Best) → told (ok_or best NoParameterPasses) ≡ answer_of best
+told_is None = refl
+told_is (Some best) = refl

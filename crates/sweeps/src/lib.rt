@@ -6,8 +6,12 @@ mod sweep;
 ghost use Rattle.std.specs.Prelude.{◌≡◌, List, ℕ, ◌≤◌};
 ghost use Rattle.jobs.specs.Packing.{copies, Fits, bins_used};
 ghost use Rattle.sweeps.specs.Sweep.{sweep_answer};
+ghost use Rattle.sweeps.specs.Progress.{told};
 
-// The answer to a sweep: the number that refuses it, or 0 with the largest lower bound on bins and
+use crate::sweep::Best;
+use refusals::Refusal;
+
+// The answer to a sweep, as C reads it: the number that refuses it, or 0 with the largest lower bound on bins and
 // the least p that gives it.
 #[repr(C)]
 #[derive(Clone, Copy)]
@@ -15,6 +19,21 @@ pub struct SweepAnswer {
     pub number: u64,
     pub floor: u64,
     pub p: u64,
+}
+
+// The best of the parameters from low to high, with q 0.
+fn best_parameter(
+    capacity: u64,
+    family: u8,
+    sizes: &[u32],
+    counts: &[u16],
+    low: u64,
+    high: u64,
+) -> Result<Best, Refusal>
+    ensures { told result ≡ sweep_answer capacity family sizes.now counts.now low high }
+{
+    let sweep = sweep::Sweep::accepted(capacity, family, sizes, counts, low, high)?;
+    sweep.best().ok_or(Refusal::NoParameterPasses)
 }
 
 // The sweep operation: each p from low to high, with q 0. Each size has its count.
@@ -30,9 +49,16 @@ pub fn windowfloor_sweep(
     ensures safe { (bins : List ℕ) → Fits capacity (copies counts.now sizes.now) bins
         → result.floor ≤ bins_used bins }
 {
-    let number = sweep::refuse_sweep(capacity, family, sizes, counts, low, high);
-    if number != 0 {
-        return sweep::refused(number);
+    match best_parameter(capacity, family, sizes, counts, low, high) {
+        Ok(best) => SweepAnswer {
+            number: 0,
+            floor: best.floor,
+            p: best.p,
+        },
+        Err(refusal) => SweepAnswer {
+            number: refusal.number(),
+            floor: 0,
+            p: 0,
+        },
     }
-    sweep::sweep_range(capacity, family, sizes, counts, low, high)
 }

@@ -4,9 +4,11 @@
 // Writes a line for each answer: number, length, a checksum of each buffer, and the list.
 #![tactic(auto)]
 
-ghost use Rattle.std.specs.Prelude.{◌≤◌, ◌<◌, IfOk, length};
+ghost use Rattle.std.specs.Prelude.{◌≤◌, length};
+ghost use Rattle.cases.specs.Onward.{PassesSome};
 
-use std::io::{self, BufWriter, Write};
+use decimal::Numbers;
+use std::io::{self, Write};
 
 // The most bytes of standard input that are read.
 const MOST_BYTES: usize = 65_536;
@@ -17,49 +19,18 @@ const MOST_ENTRIES: usize = tables::MOST_ENTRIES + 1;
 // The most places of a buffer.
 const MOST_PLACES: usize = 2_100;
 
-// A place behind the table is ignored.
-fn set_entry(table: &mut [u32], place: u64, value: u32) {
-    if place < table.len() as u64 {
-        let at = place as usize;
-        table[at] = value;
-    }
-}
-
-// Sets the entries of the pairs from a place on and answers the place behind them.
-fn set_entries(text: &[u8], from: usize, table: &mut [u32], pairs: usize) -> usize
-    ensures { from ≤ result }
+// Makes the table of s, k and the pairs.
+fn make_table(numbers: &mut Numbers<'_>, table: &mut [u32])
+    ensures { length numbers.new ≤ length numbers.old }
 {
-    let mut at = from;
-    for _ in 0..pairs {
-        let place = decimal::number_at(text, at);
-        let value = decimal::number_at(text, place.next);
-        set_entry(table, place.value, buffers::low_bits(value.value));
-        at = value.next;
+    let [s, k] = numbers.next_numbers::<2>();
+    buffers::fill(table, 0, buffers::low_bits(s));
+    for _ in 0..buffers::at_most(k, MOST_ENTRIES) {
+        let [place, value] = numbers.next_numbers::<2>();
+        if let Some(entry) = table.get_mut(place as usize) {
+            *entry = buffers::low_bits(value);
+        }
     }
-    at
-}
-
-fn write_number<W: Write>(out: &mut W, number: u64) -> io::Result<()> {
-    write!(out, " {number}")
-}
-
-// Writes the first places of a list.
-fn write_list<W: Write>(out: &mut W, list: &[u32], count: u64) -> io::Result<()> {
-    let n = buffers::at_most(count, list.len());
-    for number in &list[..n] {
-        write_number(out, u64::from(*number))?;
-    }
-    Ok(())
-}
-
-// Makes the table from s, k and the pairs at a place and answers the place behind them.
-fn make_table(text: &[u8], at: usize, table: &mut [u32]) -> usize
-    ensures { at ≤ result }
-{
-    let s = decimal::number_at(text, at);
-    let k = decimal::number_at(text, s.next);
-    buffers::fill(table, 0, buffers::low_bits(s.value));
-    set_entries(text, k.next, table, buffers::at_most(k.value, MOST_ENTRIES))
 }
 
 fn check_table<W: Write>(
@@ -71,64 +42,32 @@ fn check_table<W: Write>(
     buffers::fill_working(working);
     buffers::fill(list, 900_000, 1);
     let answer = tables::windowfloor_table_check(table, working, list);
-    write!(out, "{}", answer.number)?;
-    write_number(out, answer.length)?;
-    write_number(out, buffers::working_sum(working))?;
-    write_number(out, buffers::list_sum(list))?;
-    write_list(out, list, answer.length)?;
+    let (working_sum, list_sum) = (buffers::checksum(working), buffers::checksum(list));
+    write!(
+        out,
+        "{} {} {working_sum} {list_sum}",
+        answer.number, answer.length
+    )?;
+    for number in &list[..buffers::at_most(answer.length, list.len())] {
+        write!(out, " {number}")?;
+    }
     writeln!(out)
 }
 
-fn run_table<W: Write>(
-    out: &mut W,
-    text: &[u8],
-    at: usize,
-    table: &mut [u32],
-    working: &mut [u64],
-    list: &mut [u32],
-) -> io::Result<usize>
-    ensures { IfOk result (λ next. at ≤ next) }
+fn run_case<W: Write>(out: &mut W, numbers: &mut Numbers<'_>) -> io::Result<()>
+    ensures { PassesSome result numbers.old numbers.new }
 {
-    let end = make_table(text, at, table);
-    check_table(out, table, working, list)?;
-    Ok(end)
-}
-
-// Runs the case at a place and answers the place behind it.
-fn run_case<W: Write>(out: &mut W, text: &[u8], at: usize) -> io::Result<usize>
-    ensures { at < length text.now → IfOk result (λ next. at < next) }
-{
-    let n = decimal::number_at(text, at);
-    let w = decimal::number_at(text, n.next);
-    let l = decimal::number_at(text, w.next);
-    let entries = buffers::at_most(n.value, MOST_ENTRIES);
-    let places = buffers::at_most(w.value, MOST_PLACES);
-    let sizes = buffers::at_most(l.value, MOST_PLACES);
+    let [n, w, l] = numbers.next_numbers::<3>();
     let mut table = [0u32; MOST_ENTRIES];
     let mut working = [0u64; MOST_PLACES];
     let mut list = [0u32; MOST_PLACES];
-    run_table(
-        out,
-        text,
-        l.next,
-        &mut table[..entries],
-        &mut working[..places],
-        &mut list[..sizes],
-    )
-}
-
-fn run_cases<W: Write>(out: &mut W, text: &[u8]) -> io::Result<()> {
-    let mut at = 0;
-    while at < text.len() {
-        at = run_case(out, text, at)?;
-    }
-    Ok(())
+    let table = &mut table[..buffers::at_most(n, MOST_ENTRIES)];
+    let working = &mut working[..buffers::at_most(w, MOST_PLACES)];
+    let list = &mut list[..buffers::at_most(l, MOST_PLACES)];
+    make_table(numbers, table);
+    check_table(out, table, working, list)
 }
 
 fn main(rt: HostRuntime) -> io::Result<()> {
-    let mut text = [0u8; MOST_BYTES];
-    let n = input::read_full(&mut rt.stdin(), &mut text)?;
-    let mut out = BufWriter::new(rt.alloc(), rt.stdout())?;
-    run_cases(&mut out, &text[..n])?;
-    out.flush()
+    cases::run::<MOST_BYTES, _>(rt, 1, run_case)
 }

@@ -1,5 +1,5 @@
 -- Refusals 6 to 10 as facts on a table and its buffers, and what the crates above need not unfold.
-use mathlib.Core.Path.{◌≡◌, refl, ap}
+use mathlib.Core.Path.{◌≡◌, refl, ap, sym}
 use mathlib.Core.Bool.{true, not, ◌&&◌, ◌||◌, and-eq-true_iff}
 use mathlib.Core.List.{List, [], ◌∷◌}
 use Prim.Native.Nat.{ℕ, zero, suc, ◌-◌, ◌≤◌, ◌<◌}
@@ -8,10 +8,13 @@ use borrow.Author.Tests.{leb-true, ltb-false, eqb-true, eqb-false, le-leb, le-lt
 use lib.Dec.{leb, ltb, eqb}
 use lib.ListN.{length, get_or, drop}
 use lib.Seq.{drop-cons}
+use Rattle.std.specs.Prelude.{Result, Ok, Err, OnOk}
+use Rattle.refusals.specs.Number.{number_in}
+use Rattle.refusals.specs.declared.Refusal.{Refusal}
 use Rattle.functions.specs.Words.{limit}
-use Rattle.functions.proofs.Cases.{not_refused, neither, of_both}
+use Rattle.functions.proofs.Cases.{not_refused, neither, of_both, then_zero}
 use Rattle.tables.specs.Table.{entry, table_capacity, table_scale}
-use Rattle.tables.specs.Check.{most_entries, within_limit, form_refusal, TableForm, length_refusal}
+use Rattle.tables.specs.Check.{most_entries, within_limit, form_refusal, TableForm, length_refusal, shape_refusal, Passed}
 
 pub capacity_is : (t : List ℕ) → table_capacity t ≡ length t - 1
 unfolding table_capacity
@@ -104,3 +107,24 @@ module _ (entries working list : ℕ) where
   length_below =
       of_both (λ n. n < 11) (ltb entries 2 || ltb most_entries entries) 6 _ (omega arith)
       (of_both (λ n. n < 11) (ltb working entries || ltb list (entries - 1)) 7 0 (omega arith) (omega arith))
+
+module _ (t : List ℕ) (working list : ℕ) where
+  pub passed : shape_refusal t working list ≡ 0 → Passed t working list
+  unfolding shape_refusal
+  passed e =
+      let right = then_zero (length_refusal (length t) working list) (form_refusal t) e in
+      let room = lengths (length t) working list right.0 in
+      record {
+        form = form_of t room.least room.most right.1;
+        working_room = room.working_room;
+        list_room = omega (arith, capacity_is t, room.list_room);
+      }
+
+  pub passed_at_ok : (outcome : Result (Unit {0}) Refusal) → number_in outcome ≡ shape_refusal t working list → OnOk outcome (Passed t working list)
+  passed_at_ok (Ok done) e = passed (sym e)
+  passed_at_ok (Err refusal) e = tt
+
+  pub shape_below : shape_refusal t working list < 11
+  unfolding shape_refusal
+  shape_below =
+      of_both (λ n. n < 11) (eqb (length_refusal (length t) working list) 0) _ _ (form_below t) (length_below (length t) working list)

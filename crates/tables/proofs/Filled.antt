@@ -6,17 +6,13 @@ use Prim.Native.Nat.{ℕ, zero, suc, ◌+◌, ◌-◌, ◌≤◌, ◌<◌}
 use native.Mathlib.Nat.{eq-or-lt_of_le}
 use native.Mathlib.Omega.{arith}
 use lib.ListN.{length, get_or, take, drop, set, length-set, length-reverse, get_or-append}
-use lib.Seq.{get_or_at, get_or-take, drop-set-lt, length-take-le, set-set}
+use lib.Seq.{get_or_at, get_or-take, drop-set-lt, length-take-le, set-set, take_at}
 use Rattle.functions.proofs.Pasted.{pasted, pasted_length}
 use Rattle.tables.specs.Table.{best, bests, all_bests, table_capacity}
 use Rattle.tables.specs.Check.{TableForm, at_front}
-use Rattle.tables.specs.Working.{BestsBelow}
+use Rattle.tables.specs.Working.{AreBests}
 use Rattle.tables.proofs.Best.{best_zero, bests_length}
 use Rattle.tables.proofs.Buffers.{pasted_write, pasted_whole}
-
-pub fewer_bests : (t working : List ℕ) (c d : ℕ) → BestsBelow t working c → d ≤ c → BestsBelow t working d
-fewer_bests t working c d b l =
-    record { form = b.form; in_table = omega (arith, b.in_table); in_working = omega (arith, b.in_working); holds = λ j m. b.holds j (omega arith) }
 
 module _ (t : List ℕ) where
   ascending_length : (c : ℕ) → length (reverse (bests t c)) ≡ suc c
@@ -50,41 +46,42 @@ module _ (t : List ℕ) where
     unfolding all_bests table_capacity
     all_at j l = ascending (length t - 1) j (omega arith)
 
-    -- a buffer whose first c places are written
-    bests_pasted : (old : List ℕ) (c : ℕ) → length t ≤ length old → c ≤ length t → BestsBelow t (pasted (all_bests t) old c) c
-    bests_pasted old c room l =
-        let full = all_length in
-        let front = length-take-le c (all_bests t) (omega arith) in
+    -- the first c of the bests
+    first_bests : (c : ℕ) → c ≤ length t → AreBests t (take c (all_bests t))
+    first_bests c l =
+        let count = length-take-le c (all_bests t) (omega (arith, all_length)) in
         record {
           form = form;
-          in_table = l;
-          in_working = omega (arith, pasted_length (all_bests t) old c (omega arith) (omega arith));
-          holds = λ j m. get_or-append (take c (all_bests t)) (drop c old) 0 j (omega arith) ∙ get_or-take c (all_bests t) j 0 m ∙ all_at j (omega arith);
+          in_table = omega (arith, count);
+          holds = λ j m. get_or-take c (all_bests t) j 0 (omega (arith, count)) ∙ all_at j (omega (arith, count));
         }
 
+    -- a buffer whose first c places are written
+    bests_pasted : (old working : List ℕ) (c : ℕ) → c ≤ length t → working ≡ pasted (all_bests t) old c → AreBests t (take c working)
+    bests_pasted old working c l is =
+        rw (ap (take c) is ∙ take_at (take c (all_bests t)) (drop c old) c (length-take-le c (all_bests t) (omega (arith, all_length)))) (first_bests c l)
+
     -- the buffer once it is filled
-    pub all_bests_lem : (old working : List ℕ) → length t ≤ length old → working ≡ at_front (all_bests t) old → BestsBelow t working (length t)
-    all_bests_lem old working room is =
-        rw (is ∙ sym (pasted_whole (all_bests t) old (length t) (sym all_length))) (bests_pasted old (length t) room (omega arith))
+    pub all_bests_lem : (old working : List ℕ) → working ≡ at_front (all_bests t) old → AreBests t (take (length t) working)
+    all_bests_lem old working is =
+        bests_pasted old working (length t) (omega arith) (is ∙ sym (pasted_whole (all_bests t) old (length t) (sym all_length)))
+
+    pub all_bests_at : (old working : List ℕ) → working ≡ at_front (all_bests t) old → (j : ℕ) → j < length t → get_or working j 0 ≡ best t j
+    unfolding at_front
+    all_bests_at old working is j l =
+        ap (λ (xs : List ℕ). get_or xs j 0) is ∙ get_or-append (all_bests t) (drop (length (all_bests t)) old) 0 j (omega (arith, all_length)) ∙ all_at j l
 
 -- the first c places are written, and the others are as they were
 pub record Filled (t old working : List ℕ) (c : ℕ) : Type 0 where
   pub form : TableForm t
   pub room : length t ≤ length old
-  pub positive : 1 ≤ c
   pub in_table : c ≤ length t
   pub working_is : working ≡ pasted (all_bests t) old c
 
 -- best 0 is 0
 pub filled_first : (t old : List ℕ) → TableForm t → length t ≤ length old → Filled t (set old 0 0) (set old 0 0) 1
 filled_first t old form room =
-    record {
-      form = form;
-      room = omega (arith, length-set old 0 0);
-      positive = omega arith;
-      in_table = omega (arith, form.least);
-      working_is = first;
-    }
+    record { form = form; room = omega (arith, length-set old 0 0); in_table = omega (arith, form.least); working_is = first }
   where
     first : set old 0 0 ≡ pasted (all_bests t) (set old 0 0) 1
     first =
@@ -96,15 +93,14 @@ module _ (t old working : List ℕ) (c : ℕ) (f : Filled t old working c) where
   filled_length =
       ap length f.working_is ∙ pasted_length (all_bests t) old c (omega (arith, all_length t f.form, f.in_table)) (omega (arith, f.room, f.in_table))
 
-  pub filled_bests : BestsBelow t working c
-  filled_bests = rw f.working_is (bests_pasted t f.form old c f.room f.in_table)
+  pub filled_bests : AreBests t (take c working)
+  filled_bests = bests_pasted t f.form old working c f.in_table f.working_is
 
   pub filled_next : (v : ℕ) → c < length t → v ≡ best t c → Filled t old (set working c v) (c + 1)
   filled_next v l e =
       record {
         form = f.form;
         room = f.room;
-        positive = omega arith;
         in_table = omega arith;
         working_is = pasted_write (all_bests t) old c working v f.working_is (e ∙ sym (all_at t f.form c l)) (omega (arith, all_length t f.form)) (omega (arith, f.room));
       }

@@ -1,5 +1,5 @@
 -- best c from the bests of two parts of c, of which one is at most half: the invariant of the loop over y.
-use mathlib.Core.Path.{◌≡◌, refl, ap}
+use mathlib.Core.Path.{◌≡◌, ap}
 use mathlib.Core.List.{List}
 use mathlib.Core.Logic.{⊎_elim}
 use Prim.Native.Nat.{ℕ, suc, ◌+◌, ◌-◌, ◌*◌, ◌≤◌, ◌<◌, max}
@@ -21,9 +21,9 @@ pub record Halved (t : List ℕ) (c most y : ℕ) : Type 0 where
   pub pairs : (j : ℕ) → 1 ≤ j → j < y → best t j + best t (c - j) ≤ most
 
 pub halved_start : (t : List ℕ) (c : ℕ) → TableForm t → 1 ≤ c → c < length t → Halved t c (entry t c) 1
-halved_start t c h some l =
+halved_start t c form some l =
     record {
-      form = h;
+      form = form;
       listed = l;
       positive = le_refl 1;
       up_to = some;
@@ -32,7 +32,7 @@ halved_start t c h some l =
       pairs = λ j k m. absurd (omega arith);
     }
 
-module _ (t : List ℕ) (c most y : ℕ) (h : Halved t c most y) where
+module _ {t : List ℕ} {c most y : ℕ} (h : Halved t c most y) where
   pub halved_next : (m : ℕ) → 2 * y ≤ c → m ≡ max most (best t y + best t (c - y)) → Halved t c m (y + 1)
   halved_next m low is =
       record {
@@ -58,9 +58,9 @@ module _ (t : List ℕ) (c most y : ℕ) (h : Halved t c most y) where
       omega (arith, h.within, best_halved t h.form c most h.listed (omega (arith, h.positive, h.up_to)) h.whole (λ j k l. h.pairs j k (omega arith)))
 
 -- two sizes in a turn
-pub halved_twice : (t : List ℕ) (c most y m : ℕ) → Halved t c most y → y + 2 ≤ c - y → m ≡ max most (max (best t y + best t (c - y)) (best t (y + 1) + best t (c - (y + 1)))) → Halved t c m (y + 2)
-halved_twice t c most y m h low is =
+pub halved_twice : {t : List ℕ} {c most y : ℕ} → Halved t c most y → (m : ℕ) → y + 2 ≤ c - y → m ≡ max most (max (best t y + best t (c - y)) (best t (y + 1) + best t (c - (y + 1)))) → Halved t c m (y + 2)
+halved_twice {t} {c} {most} {y} h m low is =
     let once = max most (best t y + best t (c - y)) in
-    let first : Halved t c once (y + 1) = halved_next t c most y h once (omega arith) refl in
+    let first : Halved t c once (y + 1) = halved_next h once (omega arith) (omega arith) in
     let two : y + 1 + 1 ≡ y + 2 = omega arith in
-    rw two at (halved_next t c once (y + 1) first m (omega arith) (omega arith))
+    rw two at (halved_next first m (omega arith) (omega arith))

@@ -4,7 +4,7 @@ pub mod Halved
 pub mod Buffers
 pub mod Filled
 pub mod Walk
-pub mod Searched
+pub mod Known
 pub mod Written
 pub mod Promise
 pub mod Outcome

@@ -2,96 +2,93 @@
 use mathlib.Core.Path.{◌≡◌, ap, sym, ◌∙◌}
 use mathlib.Core.Bool.{cond}
 use mathlib.Core.List.{List, ◌++◌}
+use mathlib.Core.Logic.{⊎_elim}
 use Prim.Native.Nat.{ℕ, ◌-◌, ◌≤◌, ◌<◌}
+use native.Mathlib.Nat.{eq-zero-or-pos}
 use native.Mathlib.Omega.{arith}
-use borrow.Author.Tests.{le-ltb, ne_eqb}
-use lib.Dec.{eqb}
+use borrow.Author.Tests.{le-ltb, lt-ltb, ne_eqb}
+use lib.Dec.{eqb, ltb}
 use lib.ListN.{length, get_or, take, drop}
 use lib.Seq.{take_at}
 use Rattle.tables.specs.Table.{table_capacity, table_scale, best, all_bests, counterexample}
-use Rattle.tables.specs.Check.{form_refusal, TableForm, entries_refusal, length_refusal, table_refusal, table_answer, at_front, working_after, list_after}
-use Rattle.tables.specs.Working.{BestsBelow}
+use Rattle.tables.specs.Check.{TableForm, entries_refusal, length_refusal, shape_refusal, table_refusal, table_answer, at_front, working_after, list_after}
+use Rattle.tables.specs.Working.{AreBests}
 use Rattle.tables.specs.Promise.{Overshoots, AcceptedExactly}
 use Rattle.tables.specs.declared.TableAnswer.{TableAnswer}
-use Rattle.tables.proofs.Entries.{capacity_is, scale_is_last, form_of, form_fine, form_below, lengths, length_below}
-use Rattle.tables.proofs.Filled.{all_bests_lem}
-use Rattle.tables.proofs.Promise.{accepted, refuted, overshoots, table_promise}
-
--- what refusals 6 to 10 leave
-pub record Passed (t w l : List ℕ) : Type 0 where
-  pub lengths : length_refusal (length t) (length w) (length l) ≡ 0
-  pub form : TableForm t
-  pub working_room : length t ≤ length w
-  pub list_room : table_capacity t ≤ length l
-
-pub passed : (t w l : List ℕ) → length_refusal (length t) (length w) (length l) ≡ 0 → form_refusal t ≡ 0 → Passed t w l
-passed t w l e f =
-    let room = lengths (length t) (length w) (length l) e in
-    record {
-      lengths = e;
-      form = form_of t room.least room.most f;
-      working_room = room.working_room;
-      list_room = omega (arith, capacity_is t, room.list_room);
-    }
+use Rattle.tables.proofs.Entries.{capacity_is, scale_is_last, passed, shape_below}
+use Rattle.tables.proofs.Filled.{all_bests_lem, all_bests_at}
+use Rattle.tables.proofs.Promise.{overshoots, table_promise}
 
 module _ (t w l : List ℕ) where
   -- the contract's five claims
   abbrev pub Outcome : TableAnswer → List ℕ → List ℕ → Type 0
   Outcome r w' l' =
-      (r ≡ table_answer t (length w) (length l))
-      × ((w' ≡ working_after t w l)
-      × ((l' ≡ list_after t w l)
-      × ((r.number ≡ 11 → Overshoots t (take r.length l'))
-      × AcceptedExactly t (length w) (length l) r.number)))
+      record {
+        answer : r ≡ table_answer t (length w) (length l);
+        working : w' ≡ working_after t w l;
+        list : l' ≡ list_after t w l;
+        overshoots : r.number ≡ 11 → Overshoots t (take r.length l');
+        exactly : AcceptedExactly t (length w) (length l) r.number;
+      }
 
   exactly : (n : ℕ) → table_refusal t (length w) (length l) ≡ n → AcceptedExactly t (length w) (length l) n
   exactly n e = rw (← e) (table_promise t (length w) (length l)).accepted_exactly
 
-  -- refused by a number other than 11: nothing is written
-  unwritten : (n : ℕ) → table_refusal t (length w) (length l) ≡ n → (n ≡ 0 → ⊥) → n < 11 → Outcome (record { number = n; length = 0 }) w l
+  by_shape : table_refusal t (length w) (length l) ≡ cond (eqb (shape_refusal t (length w) (length l)) 0) (cond (ltb (table_scale t) (best t (table_capacity t))) 11 0) (shape_refusal t (length w) (length l))
+  unfolding table_refusal entries_refusal shape_refusal
+  by_shape =
+      ⊎_elim (λ e. rw e) (λ some. simp (ne_eqb (length_refusal (length t) (length w) (length l)) 0 (omega arith))) (eq-zero-or-pos (length_refusal (length t) (length w) (length l)))
+
+  -- refused by 6 to 10: nothing is written
+  pub refused : (n : ℕ) → n ≡ shape_refusal t (length w) (length l) → 1 ≤ n → Outcome (record { number = n; length = 0 }) w l
   unfolding table_answer working_after list_after
-  unwritten n e some less = (
-    rw (e, ne_eqb n 11 (omega arith)),
-    (
-      rw (e, ne_eqb n 0 some, ne_eqb n 11 (omega arith)),
-      (rw (e, ne_eqb n 11 (omega arith)), (λ eleven. absurd (omega arith), exactly n e)),
-    ),
-  )
+  refused n is some =
+      let e : table_refusal t (length w) (length l) ≡ n = by_shape ∙ rw (← is, ne_eqb n 0 (omega arith)) in
+      let other = ne_eqb n 11 (omega (arith, is, shape_below t (length w) (length l))) in
+      record {
+        answer = rw (e, other);
+        working = rw (e, ne_eqb n 0 (omega arith), other);
+        list = rw (e, other);
+        overshoots = λ eleven. absurd (omega (arith, is, shape_below t (length w) (length l)));
+        exactly = exactly n e;
+      }
 
-  pub refused_by_length : (n : ℕ) → n ≡ length_refusal (length t) (length w) (length l) → (n ≡ 0 → ⊥) → Outcome (record { number = n; length = 0 }) w l
-  unfolding table_refusal
-  refused_by_length n e some =
-      unwritten n (rw (← e, ne_eqb n 0 some)) some (omega (arith, e, length_below (length t) (length w) (length l)))
+  module _ (shape : shape_refusal t (length w) (length l) ≡ 0) (w' : List ℕ) (filled : w' ≡ at_front (all_bests t) w) where
+    form : TableForm t
+    form = (passed t (length w) (length l) shape).form
 
-  by_entries : length_refusal (length t) (length w) (length l) ≡ 0 → table_refusal t (length w) (length l) ≡ entries_refusal t
-  unfolding table_refusal
-  by_entries room = rw room
-
-  pub refused_by_form : length_refusal (length t) (length w) (length l) ≡ 0 → (n : ℕ) → n ≡ form_refusal t → (n ≡ 0 → ⊥) → Outcome (record { number = n; length = 0 }) w l
-  unfolding entries_refusal
-  refused_by_form room n e some =
-      unwritten n (by_entries room ∙ rw (← e, ne_eqb n 0 some)) some (omega (arith, e, form_below t))
-
-  module _ (p : Passed t w l) (w' : List ℕ) (filled : w' ≡ at_front (all_bests t) w) where
-    pub working_bests : BestsBelow t w' (length t)
-    working_bests = all_bests_lem t p.form w w' p.working_room filled
+    pub all_known : AreBests t (take (length t) w')
+    all_known = all_bests_lem t form w w' filled
 
     last_best : get_or w' (length t - 1) 0 ≡ best t (table_capacity t)
-    last_best = working_bests.holds (length t - 1) (omega (arith, p.form.least)) ∙ ap (best t) (sym (capacity_is t))
+    last_best =
+        all_bests_at t form w w' filled (length t - 1) (omega (arith, form.least)) ∙ ap (best t) (sym (capacity_is t))
 
     pub ends_accepted : get_or w' (length t - 1) 0 ≤ get_or t (length t - 1) 0 → Outcome (record { number = 0; length = 0 }) w' l
     unfolding table_answer working_after list_after
     ends_accepted fits =
-        let e = by_entries p.lengths ∙ accepted t (form_fine t p.form) (omega (arith, last_best, scale_is_last t)) in
-        (rw e, (filled ∙ rw e, (rw e, (λ eleven. absurd (omega arith), exactly 0 e))))
+        let e : table_refusal t (length w) (length l) ≡ 0 = by_shape ∙ rw (shape, le-ltb (table_scale t) (best t (table_capacity t)) (omega (arith, last_best, scale_is_last t))) in
+        record {
+          answer = rw e;
+          working = filled ∙ rw e;
+          list = rw e;
+          overshoots = λ eleven. absurd (omega arith);
+          exactly = exactly 0 e;
+        }
 
     pub ends_refuted : (n : ℕ) (l' : List ℕ) → get_or t (length t - 1) 0 < get_or w' (length t - 1) 0 → n ≡ length (counterexample t) → l' ≡ at_front (counterexample t) l → Outcome (record { number = 11; length = n }) w' l'
     unfolding table_answer working_after list_after at_front
     ends_refuted n l' over count written =
         let more : table_scale t < best t (table_capacity t) = omega (arith, last_best, scale_is_last t) in
-        let e = by_entries p.lengths ∙ refuted t (form_fine t p.form) more in
+        let e : table_refusal t (length w) (length l) ≡ 11 = by_shape ∙ rw (shape, lt-ltb (table_scale t) (best t (table_capacity t)) more) in
         let list : take n l' ≡ counterexample t = ap (take n) written ∙ take_at (counterexample t) _ n (sym count) in
-        (rw (e, count), (filled ∙ rw e, (written ∙ rw e, (λ eleven. rw list (overshoots t more), exactly 11 e))))
+        record {
+          answer = rw (e, count);
+          working = filled ∙ rw e;
+          list = written ∙ rw e;
+          overshoots = λ eleven. rw list (overshoots t more);
+          exactly = exactly 11 e;
+        }
 
 -- longer buffers change no refusal
 pub same_refusal : (t : List ℕ) (working list : ℕ) → length t ≤ working → table_capacity t ≤ list → table_refusal t working list ≡ table_refusal t (length t) (table_capacity t)

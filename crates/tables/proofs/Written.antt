@@ -9,10 +9,12 @@ use lib.ListN.{length, get_or, drop, set}
 use lib.Seq.{get_or-drop, drop-drop}
 use Rattle.functions.proofs.Pasted.{pasted, pasted_length}
 use Rattle.tables.specs.Table.{best, least_size, walk, counterexample, table_capacity}
-use Rattle.tables.specs.Check.{at_front}
+use Rattle.tables.specs.Check.{at_front, most_entries}
+use Rattle.tables.specs.Working.{AreBests}
+use Rattle.tables.proofs.Entries.{capacity_is}
 use Rattle.tables.proofs.Best.{best_zero}
 use Rattle.tables.proofs.Buffers.{pasted_write, pasted_whole}
-use Rattle.tables.proofs.Walk.{least_fits, walk_ends, walk_goes, walked}
+use Rattle.tables.proofs.Walk.{least_fits, best_positive, walk_ends, walk_goes, walked}
 
 module _ (t : List ℕ) where
   walk_none : (k c : ℕ) → c ≤ 0 → walk t k c ≡ []
@@ -75,7 +77,7 @@ module _ (t old list : List ℕ) (c n : ℕ) (w : Written t old list c n) where
     goes_on : n < length (counterexample t)
     goes_on = omega (arith, w.count, ap length (walk_step t c pos))
 
-    pub written_room : n < length old
+    written_room : n < length old
     written_room = omega (arith, goes_on, counterexample_short t, w.room)
 
     begins : drop n (counterexample t) ≡ least_size t c ∷ walk t (c - least_size t c) (c - least_size t c)
@@ -102,3 +104,30 @@ module _ (t old list : List ℕ) (c n : ℕ) (w : Written t old list c n) where
   written_end none =
       let all : n ≡ length (counterexample t) = omega (arith, w.count, ap length (walk_stop t c none)) in
       (all, w.list_is ∙ pasted_whole (counterexample t) old n all)
+
+-- the place that a turn reads
+module _ {t totals old list : List ℕ} {c n : ℕ} (known : AreBests t totals) (all : length totals ≡ length t) (w : Written t old list c n) where
+  pub in_totals : c < length totals
+  in_totals = omega (arith, all, w.within, capacity_is t, known.form.least)
+
+  pub total_is : get_or totals c 0 ≡ best t c
+  total_is = known.holds c in_totals
+
+-- a turn of the loop, where the place that it reads is not 0
+pub record Turn (t list : List ℕ) (c n : ℕ) : Type 0 where
+  pub some : 0 < best t c
+  pub positive : 1 ≤ c
+  pub size : (1 ≤ least_size t c) × (least_size t c ≤ c)
+  pub small : c < most_entries
+  pub room : n < length list
+
+pub turn : {t totals old list : List ℕ} {c n : ℕ} → AreBests t totals → length totals ≡ length t → Written t old list c n → 0 < get_or totals c 0 → Turn t list c n
+turn {t} {totals} {old} {list} {c} {n} known all w more =
+    let some : 0 < best t c = omega (arith, total_is known all w) in
+    record {
+      some = some;
+      positive = best_positive t c some;
+      size = least_fits t c some;
+      small = omega (arith, in_totals known all w, known.form.most);
+      room = omega (arith, written_room t old list c n w some, written_length t old list c n w);
+    }

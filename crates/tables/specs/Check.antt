@@ -41,6 +41,17 @@ length_refusal entries working list =
     cond (ltb entries 2 || ltb most_entries entries) 6
     (cond (ltb working entries || ltb list (entries - 1)) 7 0)
 
+-- the number that refuses a table for its form or for the lengths, or 0
+unfoldable pub shape_refusal : List ℕ → ℕ → ℕ → ℕ
+shape_refusal t working list =
+    cond (eqb (length_refusal (length t) working list) 0) (form_refusal t) (length_refusal (length t) working list)
+
+-- what refusals 6 to 10 leave
+pub record Passed (t : List ℕ) (working list : ℕ) : Type 0 where
+  pub form : TableForm t
+  pub working_room : length t ≤ working
+  pub list_room : table_capacity t ≤ list
+
 -- the number that refuses a table check, or 0
 unfoldable pub table_refusal : List ℕ → ℕ → ℕ → ℕ
 table_refusal t working list =

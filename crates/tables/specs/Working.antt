@@ -3,9 +3,8 @@ use Rattle.std.specs.Prelude.{◌≡◌, List, ℕ, ◌≤◌, ◌<◌, length, 
 use Rattle.tables.specs.Table.{best}
 use Rattle.tables.specs.Check.{TableForm}
 
--- a table whose form passed, and a buffer that holds best 0 to best (c - 1)
-pub record BestsBelow (t working : List ℕ) (c : ℕ) : Type 0 where
+-- a table whose form passed, and its bests from best 0 on, as many as there are totals
+pub record AreBests (t totals : List ℕ) : Type 0 where
   pub form : TableForm t
-  pub in_table : c ≤ length t
-  pub in_working : c ≤ length working
-  pub holds : (j : ℕ) → j < c → get_or working j 0 ≡ best t j
+  pub in_table : length totals ≤ length t
+  pub holds : (j : ℕ) → j < length totals → get_or totals j 0 ≡ best t j

@@ -1,55 +1,61 @@
 // The refusals 6 to 10 of the table check.
-ghost use Rattle.std.specs.Prelude.{◌≡◌, ◌≤◌, length};
-ghost use Rattle.tables.specs.Check.{within_limit, form_refusal, length_refusal};
+ghost use Rattle.std.specs.Prelude.{◌≡◌, ◌≤◌, length, OnOk};
+ghost use Rattle.refusals.specs.Number.{number_in};
+ghost use Rattle.tables.specs.Check.{within_limit, form_refusal, length_refusal, shape_refusal, Passed};
 
 use crate::MOST_ENTRIES;
+use refusals::Refusal;
 
 fn within_limit(table: &[u32]) -> bool
     ensures { result ≡ within_limit table.now }
 {
-    let mut i = 0;
-    while i < table.len() {
-        if functions::LIMIT < table[i] as u64 {
-            return false;
-        }
-        i += 1;
-    }
-    true
+    table
+        .iter()
+        .all(|entry| u64::from(*entry) <= functions::LIMIT)
 }
 
 // Refusals 6 and 7.
 #[tactic(auto, unfolding(crate::specs::Check::length_refusal))]
-pub(crate) fn refuse_lengths(entries: usize, working: usize, list: usize) -> u64
-    ensures { result ≡ length_refusal entries working list }
+fn refuse_lengths(entries: usize, working: usize, list: usize) -> Result<(), Refusal>
+    ensures { number_in result ≡ length_refusal entries working list }
 {
     if entries < 2 {
-        return 6;
+        return Err(Refusal::ListLength);
     }
     if MOST_ENTRIES < entries {
-        return 6;
+        return Err(Refusal::ListLength);
     }
     if working < entries {
-        return 7;
+        return Err(Refusal::BufferTooShort);
     }
     if list < entries - 1 {
-        return 7;
+        return Err(Refusal::BufferTooShort);
     }
-    0
+    Ok(())
 }
 
 // Refusals 8 to 10.
-pub(crate) fn refuse_form(table: &[u32]) -> u64
+fn refuse_form(table: &[u32]) -> Result<(), Refusal>
     requires { 2 ≤ length table.now }
-    ensures { result ≡ form_refusal table.now }
+    ensures { number_in result ≡ form_refusal table.now }
 {
     if table[0] != 0 {
-        return 8;
+        return Err(Refusal::FirstEntry);
     }
     if table[table.len() - 1] == 0 {
-        return 9;
+        return Err(Refusal::LastEntry);
     }
     if !within_limit(table) {
-        return 10;
+        return Err(Refusal::EntryOverLimit);
     }
-    0
+    Ok(())
+}
+
+// Refusals 6 to 10, of a table and the lengths of its buffers.
+pub(crate) fn check_form(table: &[u32], working: usize, list: usize) -> Result<(), Refusal>
+    ensures number { number_in result ≡ shape_refusal table.now working list }
+    ensures passed { OnOk result (Passed table.now working list) }
+{
+    refuse_lengths(table.len(), working, list)?;
+    refuse_form(table)
 }

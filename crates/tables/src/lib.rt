@@ -1,18 +1,21 @@
 // The table check: whether a table of images is dual-feasible, and a counterexample if not.
 #![tactic(auto)]
 
+mod bests;
 mod fill;
 mod form;
-mod refute;
 
 ghost use Rattle.std.specs.Prelude.{◌≡◌, length, take};
 ghost use Rattle.tables.specs.Check.{table_answer, working_after, list_after};
 ghost use Rattle.tables.specs.Promise.{Overshoots, AcceptedExactly};
 
+use bests::Bests;
+use refusals::Refusal;
+
 // The most entries of a table.
 pub const MOST_ENTRIES: usize = 2_048;
 
-// The answer to a table check: the number that refuses it, or 0; at 11 the counterexample's length.
+// The answer to a table check, as C reads it: the number that refuses it, or 0; at 11 the counterexample's length.
 #[repr(C)]
 #[derive(Clone, Copy)]
 pub struct TableAnswer {
@@ -28,31 +31,27 @@ pub fn windowfloor_table_check(table: &[u32], working: &mut [u64], list: &mut [u
     ensures exactly { AcceptedExactly table.now (length working.old)
         (length list.old) result.number }
 {
-    let by_lengths = form::refuse_lengths(table.len(), working.len(), list.len());
-    if by_lengths != 0 {
+    if let Err(refusal) = form::check_form(table, working.len(), list.len()) {
         return TableAnswer {
-            number: by_lengths,
-            length: 0,
-        };
-    }
-    let by_form = form::refuse_form(table);
-    if by_form != 0 {
-        return TableAnswer {
-            number: by_form,
+            number: refusal.number(),
             length: 0,
         };
     }
     fill::fill_bests(table, working);
     let last = table.len() - 1;
-    if working[last] <= table[last] as u64 {
+    if working[last] <= u64::from(table[last]) {
         return TableAnswer {
             number: 0,
             length: 0,
         };
     }
-    let length = refute::write_counterexample(table, working, list);
+    let bests = Bests {
+        table,
+        totals: &working[..table.len()],
+    };
+    let length = bests.write_counterexample(list);
     TableAnswer {
-        number: 11,
+        number: Refusal::Overshoots.number(),
         length: length as u64,
     }
 }

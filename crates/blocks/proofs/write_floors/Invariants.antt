@@ -1,5 +1,4 @@
 -- `write_floors` meets its contract: each turn writes the next block's floor and adds its sum and its floor.
-use Prim.Native.Nat.{◌-◌}
 use Rattle.fields.specs.Bytes.{halfwords}
 use Rattle.blocks.specs.Sums.{counts_of}
 use Rattle.blocks.proofs.Adding.{BlocksDone}
@@ -7,6 +6,3 @@ use Rattle.blocks.proofs.write_floors.Given as goal
 
 abbrev pub invariant-loop-k : goal.invariant-loop-k
 invariant-loop-k l = BlocksDone (halfwords l.numbers) (counts_of l.counts l.images) l.images l.scale l.initial.floors l.sum l.total l.at l.k l.floors
-
-abbrev pub decreases-loop-k : goal.decreases-loop-k
-decreases-loop-k l = l.blocks - l.k

@@ -1,5 +1,5 @@
 -- `sum_of` meets its contract: each turn adds the next count times its number.
-use Prim.Native.Nat.{ℕ, ◌-◌}
+use Prim.Native.Nat.{ℕ}
 use lib.ListN.{length}
 use Rattle.functions.specs.Words.{EachWithin}
 use Rattle.functions.specs.Summed.{Summed}
@@ -9,6 +9,3 @@ use Rattle.chains.proofs.list.sum_of.Given as goal
 
 abbrev pub invariant-loop-i : goal.invariant-loop-i
 invariant-loop-i l = Summed (λ x. x) 4294967296 (counts_for (halfwords l.bytes) (length l.list)) l.list l.sum l.i × ((most : ℕ) → EachWithin most l.list → Summed (λ x. x) most (counts_for (halfwords l.bytes) (length l.list)) l.list l.sum l.i)
-
-abbrev pub decreases-loop-i : goal.decreases-loop-i
-decreases-loop-i l = length l.list - l.i

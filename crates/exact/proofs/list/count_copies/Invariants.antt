@@ -1,12 +1,9 @@
 -- `count_copies` meets its contract: each turn adds the next count.
-use Prim.Native.Nat.{◌-◌, ◌≤◌}
-use lib.ListN.{length}
-use Rattle.functions.specs.Words.{most_count}
-use Rattle.blocks.proofs.Adding.{AddedUp}
+use mathlib.Core.Path.{◌≡◌}
+use Prim.Native.Nat.{◌*◌, ◌≤◌}
+use lib.ListN.{take}
+use Rattle.functions.specs.Words.{most_count, total}
 use Rattle.exact.proofs.list.count_copies.Given as goal
 
-abbrev pub invariant-loop-i : goal.invariant-loop-i
-invariant-loop-i l = AddedUp most_count l.counts l.sum l.i × (l.i ≤ length l.counts)
-
-abbrev pub decreases-loop-i : goal.decreases-loop-i
-decreases-loop-i l = length l.counts - l.i
+abbrev pub invariant-loop-count : goal.invariant-loop-count
+invariant-loop-count l = (l.copies ≡ total (take l.count-index l.list.counts.now)) × (l.copies ≤ l.count-index * most_count)

@@ -1,5 +1,5 @@
 -- The measure is how many copies there are, twice, and one more for `place`.
-use Rattle.std.proofs.Common.{◌≡◌, ◌+◌, ◌-◌, ◌*◌, length}
+use Rattle.std.proofs.Common.{◌≡◌, ◌+◌, ◌*◌, length}
 use Rattle.exact.proofs.Searching.{Trying}
 use Rattle.exact.proofs.search.+place_try_window.Given as goal
 
@@ -13,6 +13,3 @@ abbrev pub invariant-place-loop-b : goal.invariant-place-loop-b
 invariant-place-loop-b l =
     Trying l.copies l.least l.best l.used l.initial.rooms l.initial.windows l.fewest l.rooms l.windows l.b
     × (length l.windows ≡ length l.initial.windows)
-
-abbrev pub decreases-place-loop-b : goal.decreases-place-loop-b
-decreases-place-loop-b l = l.used - l.b

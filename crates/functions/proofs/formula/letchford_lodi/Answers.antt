@@ -13,21 +13,21 @@ value_is : (c : After-round_up) → (c.args.q + 1) * (c.args.x / c.args.p) + c.r
 value_is c =
     let a = c.args in
     let less = c.requires.0 in
-    let rest = theta_of a.p a.q a.r less (a.x % a.p) c.excess.result (sym c.excess.ensures) in
+    let rest = theta_of a.p a.q a.r less (a.x % a.p) c.saturating_sub.result (sym c.saturating_sub.ensures) in
     omega (arith, rest, letchford_lodi_is a.p a.q a.r less a.x)
 
 pub overflow_mul-result : goal.overflow_mul-result
 overflow_mul-result c = omega (arith, product_most (c.args.q + 1) (c.args.x / c.args.p) (omega arith) (omega (arith, div-le_self c.args.x c.args.p)))
 
-pub overflow_mul-excess : goal.overflow_mul-excess
-overflow_mul-excess c =
+pub overflow_mul-saturating_sub : goal.overflow_mul-saturating_sub
+overflow_mul-saturating_sub c =
     let a = c.args in
-    omega (arith, product_most c.excess.result a.q (omega (arith, mod-le a.x a.p)) (omega arith))
+    omega (arith, product_most c.saturating_sub.result a.q (omega (arith, mod-le a.x a.p)) (omega arith))
 
 pub round_up-requires : goal.round_up-requires
 round_up-requires c =
     let a = c.args in
-    omega (arith, product_most c.excess.result a.q (omega (arith, mod-le a.x a.p)) (omega arith))
+    omega (arith, product_most c.saturating_sub.result a.q (omega (arith, mod-le a.x a.p)) (omega arith))
 
 pub overflow_add-result-2 : goal.overflow_add-result-2
 overflow_add-result-2 c =

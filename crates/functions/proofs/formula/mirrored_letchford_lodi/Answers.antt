@@ -10,11 +10,11 @@ pub mirrored-requires : goal.mirrored-requires
 mirrored-requires c =
     let a = c.args in
     let pre = c.requires in
-    let rises = monotone (letchford_lodi a.p a.q a.r) a.capacity (letchford_lodi_superadditive a.p a.q a.r pre.4 pre.5 a.capacity) c.lesser.result a.capacity (omega arith) (omega arith) in
+    let rises = monotone (letchford_lodi a.p a.q a.r) a.capacity (letchford_lodi_superadditive a.p a.q a.r pre.4 pre.5 a.capacity) c.min.result a.capacity (omega arith) (omega arith) in
     omega (arith, rises, letchford_lodi_twice a.p a.q a.r pre.4 pre.5 a.capacity (omega arith) (omega arith))
 
 pub returns : goal.returns
 returns c =
     let a = c.args in
     let g = letchford_lodi a.p a.q a.r in
-    c.mirrored.ensures a.capacity g (omega arith) (sym c.requires.6) (ap g (sym c.lesser.ensures) ∙ sym c.letchford_lodi-part.ensures)
+    c.mirrored.ensures a.capacity g (omega arith) (sym c.requires.6) (ap g (sym c.min.ensures) ∙ sym c.letchford_lodi-part.ensures)

@@ -1,13 +1,13 @@
 -- `is_legal` meets its contract: the greatest p, then q, then the family's own line.
-use mathlib.Core.Path.{sym, ap, ◌∙◌}
-use mathlib.Core.Bool.{◌&&◌, and-false}
-use mathlib.Core.Logic.{inl, inr}
+use mathlib.Core.Path.{sym, ◌∙◌}
+use mathlib.Core.Bool.{and-false}
+use mathlib.Core.Logic.{inl}
 use Prim.Native.Nat.{◌<◌}
 use native.Mathlib.Omega.{arith}
-use borrow.Author.Tests.{lt-leb, le-ltb, ne_eqb}
+use borrow.Author.Tests.{lt-leb, ne_eqb}
 use lib.Dec.{leb}
 use Rattle.functions.specs.Words.{limit}
-use Rattle.functions.specs.Families.{legal, legal_for}
+use Rattle.functions.specs.Families.{legal}
 use Rattle.functions.proofs.Legal.{legal_within, legal_for_pair, over_greatest}
 use Rattle.functions.proofs.judge.is_legal.Goals.{In_default, in_default-via-then-family-lt1, in_default-via-else-family-lt1+else-family-lt6}
 use Rattle.functions.proofs.judge.is_legal.Goals as goal

@@ -1,9 +1,8 @@
 -- `scale` meets its contract. In each arm the family byte is known, so its line of the legal parameters bounds the factors.
-use mathlib.Core.Path.{◌≡◌, ap}
-use mathlib.Core.Bool.{true}
+use mathlib.Core.Path.{ap}
 use Prim.Native.Nat.{ℕ, ◌+◌, ◌*◌, ◌%◌}
 use native.Mathlib.Omega.{arith}
-use Rattle.functions.specs.Families.{legal, family_scale}
+use Rattle.functions.specs.Families.{family_scale}
 use Rattle.functions.proofs.Bounds.{product_most, whole_most}
 use Rattle.functions.proofs.Legal.{Within, within, legal_5, legal_7}
 use Rattle.functions.proofs.Ready.{twice_top}
@@ -13,20 +12,16 @@ use Rattle.functions.proofs.judge.scale.Goals as goal
 limits : (c : Start) → Within c.args.capacity c.args.p c.args.q
 limits c = within _ _ _ _ c.requires.0 c.requires.2
 
--- the family byte is known to be k
-legal_at : (c : Start) (k : ℕ) → c.args.family ≡ k → legal c.args.capacity k c.args.p c.args.q ≡ true
-legal_at c k e = rw e at c.requires.2
-
 pub overflow_mul-result : goal.overflow_mul-result
 overflow_mul-result c =
     let w = limits (goal.at.overflow_mul-result c).Start in
     omega (arith, product_most c.args.capacity c.args.p (omega arith) (omega arith))
 
 pub gaps-requires : goal.gaps-requires
-gaps-requires c = (legal_5 _ _ _ (legal_at (goal.at.gaps-requires c).Start 5 c.in-5.is)).0
+gaps-requires c = (legal_5 _ _ _ (rw c.in-5.is at c.requires.2)).0
 
 pub gaps-requires-in-7 : goal.gaps-requires-in-7
-gaps-requires-in-7 c = (legal_7 _ _ _ (legal_at (goal.at.gaps-requires-in-7 c).Start 7 c.in-7.is)).least
+gaps-requires-in-7 c = (legal_7 _ _ _ (rw c.in-7.is at c.requires.2)).least
 
 pub overflow_add-result : goal.overflow_add-result
 overflow_add-result c = omega (arith, limits (goal.at.overflow_add-result c).Start)

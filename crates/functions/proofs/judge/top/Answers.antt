@@ -1,12 +1,11 @@
 -- `top` meets its contract. In each arm the family byte is known, so its line of the legal parameters bounds the factors.
-use mathlib.Core.Path.{◌≡◌, sym}
-use mathlib.Core.Bool.{true}
-use Prim.Native.Nat.{ℕ, ◌+◌, ◌*◌, ◌/◌, ◌≤◌}
+use mathlib.Core.Path.{sym}
+use Prim.Native.Nat.{◌+◌, ◌*◌, ◌/◌, ◌≤◌}
 use native.Mathlib.Nat.{div-le_self}
 use native.Mathlib.Omega.{arith}
 use borrow.Author.Tests.{ne_eqb}
 use Rattle.functions.specs.Words.{limit}
-use Rattle.functions.specs.Families.{legal, quotient}
+use Rattle.functions.specs.Families.{quotient}
 use Rattle.functions.specs.Prepared.{top_of}
 use Rattle.functions.proofs.Bounds.{twice_most}
 use Rattle.functions.proofs.FirstFour.{vanderbeck_top}
@@ -18,34 +17,19 @@ use Rattle.functions.proofs.judge.top.Goals as goal
 limits : (c : Start) → Within c.args.capacity c.args.p c.args.q
 limits c = within _ _ _ _ c.requires.0 c.requires.1
 
-limits_2 : (c : In-6) → Within c.args.capacity c.args.p c.args.q
-limits_2 c = within _ _ _ _ c.requires.0 c.requires.1
-
--- the family byte is known to be k
-legal_at_2 : (c : In-3) (k : ℕ) → c.args.family ≡ k → legal c.args.capacity k c.args.p c.args.q ≡ true
-legal_at_2 c k e = rw e at c.requires.1
-
--- the family byte is known to be k
-legal_at_3 : (c : In-4) (k : ℕ) → c.args.family ≡ k → legal c.args.capacity k c.args.p c.args.q ≡ true
-legal_at_3 c k e = rw e at c.requires.1
-
--- the family byte is known to be k
-legal_at_4 : (c : In-6) (k : ℕ) → c.args.family ≡ k → legal c.args.capacity k c.args.p c.args.q ≡ true
-legal_at_4 c k e = rw e at c.requires.1
-
 third : (c : In-3) → (1 ≤ c.args.p) × (2 * c.args.p ≤ c.args.capacity)
-third c = legal_3 _ _ _ (legal_at_2 c 3 c.in-3.is)
+third c = legal_3 _ _ _ (rw c.in-3.is at c.requires.1)
 
 fourth : (c : In-4) → (2 ≤ c.args.p) × (c.args.p ≤ c.args.capacity)
-fourth c = legal_4 _ _ _ (legal_at_3 c 4 c.in-4.is)
+fourth c = legal_4 _ _ _ (rw c.in-4.is at c.requires.1)
 
 sixth : (c : In-6) → LegalPair c.args.capacity c.args.p c.args.q
-sixth c = legal_6 _ _ _ (legal_at_4 c 6 c.in-6.is)
+sixth c = legal_6 _ _ _ (rw c.in-6.is at c.requires.1)
 
 sixth_most : (c : In-6) → 2 * ((c.args.q + 1) * (c.args.capacity / c.args.p)) ≤ (limit + 1) * (limit + 1)
 sixth_most c =
     let a = c.args in
-    let w = limits_2 c in
+    let w = within _ _ _ _ c.requires.0 c.requires.1 in
     let pair = sixth c in
     twice_most a.p a.q a.capacity (omega arith) w.capacity_within_limit w.q_within_limit
 

@@ -1,45 +1,49 @@
--- `sum_sizes` meets its contract: each turn adds the next two sizes, and a last one is added behind the loop.
-use mathlib.Core.Path.{◌≡◌}
-use Prim.Native.Nat.{◌+◌}
+-- `sum_sizes` meets its contract: each turn adds the next size's count times its image.
+use mathlib.Core.Path.{◌≡◌, ap, ◌∙◌}
+use Prim.Native.Nat.{ℕ, ◌+◌, ◌*◌, ◌≤◌}
 use native.Mathlib.Omega.{arith}
-use Rattle.functions.specs.Summed.{Summable}
-use Rattle.functions.proofs.Prepared.{summable, summed_whole}
-use Rattle.functions.proofs.Summed.{summed_start}
-use Rattle.functions.proofs.steps.sum_sizes.Goals.{After-prepare-step}
+use lib.ListN.{length}
+use Rattle.std.proofs.lemmas.List.{length_push}
+use Rattle.std.proofs.lemmas.Slice.Zip.{zip_turn, zip_end}
+use Rattle.functions.specs.Words.{limit}
+use Rattle.functions.specs.Families.{family_image}
+use Rattle.functions.specs.Summed.{Summed}
+use Rattle.functions.proofs.Promise.{image_small}
+use Rattle.functions.proofs.Summed.{summed_start, summed_next, summed_end}
+use Rattle.functions.proofs.steps.sum_sizes.Goals.{In-Some}
 use Rattle.functions.proofs.steps.sum_sizes.Goals as goal
 
--- the sizes can be summed under the prepared step
-can_sum : (c : After-prepare-step) → Summable c.args.family c.prepare-step.result c.args.sizes.now c.args.counts.now
-can_sum c =
-    let pre = c.requires in
-    summable _ _ _ _ pre.0 _ c.prepare-step.ensures _ _ pre.1 pre.2 pre.3
+within : (c : In-Some) → c.in-Some.size.now ≤ c.of-prepared.result.step.capacity
+within c =
+    let at = zip_turn c.args.sizes.now c.args.counts.now c.loop-size.yielded _ _ c.next.new.self _ (cc) (cc) c.loop-size.yielded_by _ c.in-Some.is c.next.ensures.steps in
+    rw (c.of-prepared.ensures, at.2 0) (c.requires.0 _ at.0)
 
-pub prepare-step-requires : goal.prepare-step-requires
-prepare-step-requires c = c.requires.0
+-- what a turn does to the sum
+turn : (c : In-Some) (count image : ℕ) → count ≡ c.in-Some.count.now → image ≡ family_image c.of-prepared.result.step.capacity c.of-prepared.result.step.family c.of-prepared.result.step.p c.of-prepared.result.step.q c.in-Some.size.now → Summed (family_image c.of-prepared.result.step.capacity c.of-prepared.result.step.family c.of-prepared.result.step.p c.of-prepared.result.step.q) limit c.args.counts.now c.args.sizes.now (c.loop-size.sum + count * image) (length c.loop-size.yielded + 1)
+turn c count image count_is image_is =
+    let step = c.of-prepared.result.step in
+    let f = family_image step.capacity step.family step.p step.q in
+    let at = zip_turn c.args.sizes.now c.args.counts.now c.loop-size.yielded _ _ c.next.new.self _ (cc) (cc) c.loop-size.yielded_by _ c.in-Some.is c.next.ensures.steps in
+    summed_next _ _ _ _ c.requires.1 _ _ c.loop-size.invariant _ _ at.0 (count_is ∙ at.3 0) (image_is ∙ ap f (at.2 0))
+    (omega (arith, count_is, at.3 0, c.type_inv.counts (length c.loop-size.yielded)))
+    (rw image_is (image_small step.capacity step.family step.p step.q _ step.accepted (within c)))
 
-pub loop-i-init : goal.loop-i-init
-loop-i-init c = summed_start _ _ _ _ c.requires.2
+pub loop-size-init : goal.loop-size-init
+loop-size-init c = summed_start _ _ _ _ c.requires.1
 
-pub overflow_add-i : goal.overflow_add-i
-overflow_add-i c = omega (arith, c.loop-i.invariant.passed, (can_sum (goal.at.overflow_add-i c).After-prepare-step).few)
+pub image-requires : goal.image-requires
+image-requires c = rw c.from-in-loop-size.ensures (within (goal.at.image-requires c).In-Some)
 
-pub with_size-sum-requires : goal.with_size-sum-requires
-with_size-sum-requires c = (can_sum (goal.at.with_size-sum-requires c).After-prepare-step, omega arith, c.loop-i.invariant)
+pub overflow_mul-sum : goal.overflow_mul-sum
+overflow_mul-sum c = omega (arith, turn (goal.at.overflow_mul-sum c).In-Some c.from.result c.image.result c.from.ensures (rw c.from-in-loop-size.ensures at c.image.ensures), c.requires)
 
-pub with_size-sum-requires-in-loop-i : goal.with_size-sum-requires-in-loop-i
-with_size-sum-requires-in-loop-i c = (can_sum (goal.at.with_size-sum-requires-in-loop-i c).After-prepare-step, c.loop-i-test.true, c.with_size-sum.ensures)
+pub overflow_add-sum : goal.overflow_add-sum
+overflow_add-sum c = omega (arith, turn (goal.at.overflow_add-sum c).In-Some c.from.result c.image.result c.from.ensures (rw c.from-in-loop-size.ensures at c.image.ensures), c.requires)
 
-pub loop-i-preserved : goal.loop-i-preserved
-loop-i-preserved c =
-    let i = c.loop-i.i in
-    let two : i + 1 + 1 ≡ i + 2 = omega arith in
-    rw two at c.with_size-sum-in-loop-i.ensures
-
-pub with_size-requires : goal.with_size-requires
-with_size-requires c = (can_sum (goal.at.with_size-requires c).After-prepare-step, c.if-i-sizes.true, c.loop-i.invariant)
-
-pub returns-then-i-sizes : goal.returns-then-i-sizes
-returns-then-i-sizes c = summed_whole _ _ _ _ _ c.prepare-step.ensures _ _ c.requires.2 _ _ c.with_size.ensures (omega arith)
+pub loop-size-preserved : goal.loop-size-preserved
+loop-size-preserved c = rw (length_push c.loop-size.yielded (c.in-Some.size, c.in-Some.count)) (turn (goal.at.loop-size-preserved c).In-Some _ _ c.from.ensures (rw c.from-in-loop-size.ensures at c.image.ensures))
 
 pub returns : goal.returns
-returns c = summed_whole _ _ _ _ _ c.prepare-step.ensures _ _ c.requires.2 _ _ c.loop-i.invariant c.if-i-sizes.false
+returns c =
+    let end = zip_end c.args.sizes.now c.args.counts.now c.loop-size.yielded _ _ c.next.new.self _ (cc) (cc) c.loop-size.yielded_by c.in-None.is c.next.ensures.steps in
+    rw (← c.of-prepared.ensures) (summed_end _ _ _ _ c.requires.1 _ _ c.loop-size.invariant (omega arith), omega (arith, c.loop-size.invariant))

@@ -1,29 +1,27 @@
 -- `answer_parts` meets its contract: what judges the job, and then the answer.
-use mathlib.Core.Path.{sym, ◌∙◌}
-use native.Mathlib.Omega.{arith}
-use Rattle.jobs.proofs.Answering.{verdict_number, refused_as, answered_refused, answered_accepted}
-use borrow.Author.Rules.{rules}
+use mathlib.Core.Path.{sym, ap, ◌∙◌}
+use Rattle.std.proofs.lemmas.Result.{err_from_is_err_and}
+use Rattle.chains.proofs.Present.{plain_refused}
+use Rattle.jobs.specs.declared.JobAnswer.{JobAnswer}
+use Rattle.jobs.specs.Kinds.{is_kind}
+use Rattle.jobs.proofs.Judged.{kind_refused}
+use Rattle.jobs.proofs.Answering.{answered_refused, answered_accepted}
 use Rattle.jobs.proofs.answer.answer_parts.Goals as goal
 
-pub shape_of-working-then-verdict-ne0 : goal.shape_of-working-then-verdict-ne0
-shape_of-working-then-verdict-ne0 c = search rules
+pub returns-in_err-kind-clause-answered : goal.returns-in_err-kind-clause-answered
+returns-in_err-kind-clause-answered c =
+    let told = err_from_is_err_and c.from_residual.result c.from_residual.ensures.1 in
+    let unknown = c.in_err-kind.ensures in
+    let j = plain_refused 16 c.args.list.now _ unknown.1 {A = JobAnswer} in
+    rw (told.1, told.2, kind_refused _ (ap is_kind (sym c.requires.parts_are.kind_is) ∙ unknown.0)) (answered_refused _ _ _ _ _ _ _ _ j.told j.list_is)
 
-pub returns-then-verdict-ne0 : goal.returns-then-verdict-ne0
-returns-then-verdict-ne0 c =
-    let judged = c.judge_parts-verdict in
-    let v = judged.ensures in
-    record { answered = answered_refused _ _ _ _ _ _ _ _ v.list_is (λ none. omega (arith, verdict_number _ _ v.verdict_is, none, c.if-verdict-ne0.true)) (refused_as _ _ _ v.verdict_is c.refused.ensures); working = shape_of-working-then-verdict-ne0 c }
+pub returns-in_err-judge_parts-clause-answered : goal.returns-in_err-judge_parts-clause-answered
+returns-in_err-judge_parts-clause-answered c =
+    let told = err_from_is_err_and c.from_residual-in_err-judge_parts.result c.from_residual-in_err-judge_parts.ensures.1 in
+    let j = c.in_err-judge_parts.ensures in
+    rw (told.1, told.2) (answered_refused _ _ _ _ _ _ _ _ j.told j.list_is)
 
-pub finish-requires : goal.finish-requires
-finish-requires c =
-    let pre = c.requires in
-    (pre.0, pre.1, sym (verdict_number _ _ c.judge_parts-verdict.ensures.verdict_is) ∙ c.if-verdict-ne0.false, pre.2, pre.3, pre.4)
-
-pub shape_of-working : goal.shape_of-working
-shape_of-working c = search rules
-
-pub returns : goal.returns
-returns c =
-    let v = c.judge_parts-verdict.ensures in
-    let none = sym (verdict_number _ _ v.verdict_is) ∙ c.if-verdict-ne0.false in
-    record { answered = answered_accepted _ _ _ _ _ _ _ _ v.list_is none _ _ _ c.finish.ensures; working = shape_of-working c }
+pub returns-clause-answered : goal.returns-clause-answered
+returns-clause-answered c =
+    let j = c.in_ok-judge_parts.ensures in
+    answered_accepted _ _ _ _ _ _ _ _ _ _ _ j.told j.list_is c.finish.ensures

@@ -1,12 +1,9 @@
 -- `put_values` meets its contract: each turn puts the next value.
-use Prim.Native.Nat.{◌-◌}
-use lib.ListN.{length, take}
+
+use lib.ListN.{take}
 use Rattle.report.specs.Text.{values_text}
 use Rattle.report.specs.Put.{Put}
 use Rattle.report.proofs.put.put_values.Given as goal
 
-abbrev pub invariant-loop-i : goal.invariant-loop-i
-invariant-loop-i l = Put l.initial.out l.at (values_text (take l.i l.values)) l.out l.next
-
-abbrev pub decreases-loop-i : goal.decreases-loop-i
-decreases-loop-i l = length l.values - l.i
+abbrev pub invariant-loop-value : goal.invariant-loop-value
+invariant-loop-value l = Put l.initial.out l.at (values_text (take l.value-index l.values)) l.out l.next

@@ -1,0 +1,25 @@
+-- A kind, by its number.
+use mathlib.Core.Path.{◌≡◌, refl}
+use mathlib.Core.Bool.{true}
+use Prim.Native.Nat.{ℕ}
+use native.Mathlib.Omega.{arith}
+use Rattle.fields.specs.Grammar.{floor_kind, rows_kind}
+use Rattle.jobs.specs.declared.kind.JobKind.{JobKind}
+use Rattle.jobs.specs.declared.kind.JobKind.TheVariants.{Floor, Cut, Rows}
+use Rattle.jobs.specs.Kinds.{is_kind, kind_number}
+
+pub floor_of : (kind : JobKind) → kind_number kind ≡ floor_kind → kind ≡ Floor
+floor_of Floor e = refl
+floor_of Cut e = absurd (omega (arith, e))
+floor_of Rows e = absurd (omega (arith, e))
+
+pub rows_of : (kind : JobKind) → kind_number kind ≡ rows_kind → kind ≡ Rows
+rows_of Floor e = absurd (omega (arith, e))
+rows_of Cut e = absurd (omega (arith, e))
+rows_of Rows e = refl
+
+pub known : (kind : JobKind) (number : ℕ) → kind_number kind ≡ number → is_kind number ≡ true
+unfolding is_kind
+known Floor number e = rw (← e)
+known Cut number e = rw (← e)
+known Rows number e = rw (← e)

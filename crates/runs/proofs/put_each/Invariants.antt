@@ -1,0 +1,9 @@
+-- `put_each` meets its contract: the text that is left never grows, and the place stays within the list.
+use Rattle.std.proofs.Common.{◌≤◌, length}
+use Rattle.runs.proofs.put_each.Given as goal
+
+abbrev pub invariant-loop : goal.invariant-loop
+invariant-loop g l = record {
+  forward : length l.numbers ≤ length l.initial.numbers;
+  within : l.from ≤ length l.places;
+}

@@ -1,6 +1,0 @@
--- `run_cases` ends: each case passes at least one byte.
-use Rattle.std.proofs.Common.{◌-◌, length}
-use Rattle.table_cases.proofs.run_cases.Given as goal
-
-abbrev pub decreases-loop-at : goal.decreases-loop-at
-decreases-loop-at g l = length l.text - l.at
