@@ -58,10 +58,9 @@ target/bin/windowfloor: $$(call sources,windowfloor) $$(call sources,report) \
 	cmp target/windowfloor.txt crates/windowfloor/stdout
 	cp crates/windowfloor/out/windowfloor $@
 
-# Functions start at a cache line, so that their speed does not depend on what is linked before them. Two of them
-# start 16 bytes behind one: then the loop of a table check, of 49 bytes, lies on one, and that in which a sweep of family 1
-# spends its time, of 115 bytes, on two (`objdump -d target/members/sweeps_c.o`, `make bench`).
-BEHIND = tables_c/windowfloor_table_check sweeps_c/windowfloor_sweep
+# Functions start at a cache line, so that their speed does not depend on what is linked before them. The table check
+# starts 16 bytes behind one: then its loop, of 49 bytes, lies on one (`objdump -d target/members/tables_c.o`, `make bench`).
+BEHIND = tables_c/windowfloor_table_check
 $(LIBRARY): $(ARCHIVES) Makefile
 	rm -rf $@ target/members
 	mkdir target/members
