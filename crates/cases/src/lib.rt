@@ -8,7 +8,7 @@ use decimal::Numbers;
 use std::io::{self, BufWriter, Read, Stdout, Write};
 
 // Runs the cases of a text, one after the other.
-pub fn run_cases<W: Write, F: Fn(&mut W, &mut Numbers<'_>) -> io::Result<()>>(
+fn run_cases<W: Write, F: Fn(&mut W, &mut Numbers<'_>) -> io::Result<()>>(
     out: &mut W,
     numbers: &mut Numbers<'_>,
     run_case: &F,

@@ -119,8 +119,8 @@ fn run_case<W: Write>(out: &mut W, numbers: &mut Numbers<'_>) -> io::Result<()>
     let capacity = numbers.next_number();
     let mut sizes = [0u32; runs::MOST_NUMBERS];
     let mut counts = [0u16; runs::MOST_NUMBERS];
-    let sizes = runs::put_list(numbers, &mut sizes);
-    let counts = runs::put_counts(numbers, &mut counts);
+    let sizes = runs::put_list(numbers, &mut sizes, buffers::fill);
+    let counts = runs::put_list(numbers, &mut counts, buffers::fill_halves);
     let [w, first, step] = numbers.next_numbers::<3>();
     let mut windows = [0u32; MOST_PLACES];
     let windows = &mut windows[..buffers::at_most(w, MOST_PLACES)];

@@ -51,27 +51,21 @@ pub fn put_runs<'a, T, F: Fn(&mut Numbers<'_>, &mut [T])>(
     list
 }
 
-// Reads a list of runs (count, first, step), whose numbers go on by their step, mod 2^32.
-pub fn put_list<'a>(numbers: &mut Numbers<'_>, buffer: &'a mut [u32]) -> &'a mut [u32]
+// Reads a list of runs (count, first, step), of which `fill` puts the numbers from first on by step into the
+// places of each.
+pub fn put_list<'a, T, F: Fn(&mut [T], u32, u32)>(
+    numbers: &mut Numbers<'_>,
+    buffer: &'a mut [T],
+    fill: F,
+) -> &'a mut [T]
+    requires { F.IsAlwaysCallable fill }
     ensures size { length result.now ≡ min (number numbers.old) (length buffer.old) }
     ensures forward { length numbers.new ≤ length numbers.old }
     ensures onward { 0 < length numbers.old → length numbers.new < length numbers.old }
 {
     put_runs(numbers, buffer, |numbers, run| {
         let [first, step] = numbers.next_numbers::<2>();
-        buffers::fill(run, buffers::low_bits(first), buffers::low_bits(step));
-    })
-}
-
-// Reads counts in the same way, mod 2^16.
-pub fn put_counts<'a>(numbers: &mut Numbers<'_>, buffer: &'a mut [u16]) -> &'a mut [u16]
-    ensures size { length result.now ≡ min (number numbers.old) (length buffer.old) }
-    ensures forward { length numbers.new ≤ length numbers.old }
-    ensures onward { 0 < length numbers.old → length numbers.new < length numbers.old }
-{
-    put_runs(numbers, buffer, |numbers, run| {
-        let [first, step] = numbers.next_numbers::<2>();
-        buffers::fill_halves(run, buffers::low_bits(first), buffers::low_bits(step));
+        fill(run, buffers::low_bits(first), buffers::low_bits(step));
     })
 }
 
@@ -83,10 +77,10 @@ mod tests {
     fn reads_lists(rt: HostRuntime) {
         let mut numbers = Numbers::new(b"6 2 2 7 0 9 5 1 3 1 2 70000 1");
         let mut buffer = [9u32; 8];
-        let list = put_list(&mut numbers, &mut buffer);
+        let list = put_list(&mut numbers, &mut buffer, buffers::fill);
         assert_eq!(rt; &*list, [7, 7, 5, 6, 7, 8].as_slice());
         let mut buffer = [0u16; 8];
-        let counts = put_counts(&mut numbers, &mut buffer);
+        let counts = put_list(&mut numbers, &mut buffer, buffers::fill_halves);
         assert_eq!(rt; &*counts, [4_464, 4_465, 0].as_slice());
         assert!(rt; numbers.is_done());
     }

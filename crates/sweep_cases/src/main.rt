@@ -19,8 +19,8 @@ fn run_case<W: Write>(out: &mut W, numbers: &mut Numbers<'_>) -> io::Result<()>
     let [capacity, family, low, high] = numbers.next_numbers::<4>();
     let mut sizes = [0u32; runs::MOST_NUMBERS];
     let mut counts = [0u16; runs::MOST_NUMBERS];
-    let sizes = runs::put_list(numbers, &mut sizes);
-    let counts = runs::put_counts(numbers, &mut counts);
+    let sizes = runs::put_list(numbers, &mut sizes, buffers::fill);
+    let counts = runs::put_list(numbers, &mut counts, buffers::fill_halves);
     let family = buffers::low_byte(family);
     let answer = sweeps::windowfloor_sweep(capacity, family, sizes, counts, low, high);
     writeln!(out, "{} {} {}", answer.number, answer.floor, answer.p)
