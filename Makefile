@@ -58,17 +58,19 @@ target/bin/windowfloor: $$(call sources,windowfloor) $$(call sources,report) \
 	cmp target/windowfloor.txt crates/windowfloor/stdout
 	cp crates/windowfloor/out/windowfloor $@
 
-# Functions start at a cache line, so that their speed does not depend on what is linked before them. The table check
-# starts 16 bytes behind one: then its loop, of 49 bytes, lies on one (`objdump -d target/members/tables_c.o`, `make bench`).
-BEHIND = tables_c/windowfloor_table_check
+# Functions start at a cache line, so that their speed does not depend on what is linked before them. Those of BEHIND start so
+# many bytes behind one. In the table check the loop, of 49 bytes, then lies on one line, as it does in what judges a job's
+# list, `chains::judge::judge_list`, with nothing before it (`objdump -d target/members/jobs_c.o`, `make bench`).
+BEHIND = tables_c/windowfloor_table_check=32
 $(LIBRARY): $(ARCHIVES) Makefile
 	rm -rf $@ target/members
 	mkdir target/members
 	for archive in $(ARCHIVES); do (cd target/members && ar x ../../$$archive) || exit 1; done
 	for place in $(BEHIND); do \
-		echo "SECTIONS { .text.$${place#*/} : { . += 16; *(.text.$${place#*/}) } }" >target/place.ld && \
-		ld -r -T target/place.ld target/members/$${place%/*}.o -o target/placed.o && \
-		mv target/placed.o target/members/$${place%/*}.o || exit 1; done
+		member=$${place%%/*} name=$${place#*/} && name=$${name%=*} && \
+		echo "SECTIONS { \".text.$$name\" : { . += $${place##*=}; *(\".text.$$name\") } }" >target/place.ld && \
+		ld -r -T target/place.ld target/members/$$member.o -o target/placed.o && \
+		mv target/placed.o target/members/$$member.o || exit 1; done
 	for member in target/members/*.o; do objcopy --set-section-alignment '.text.*=64' $$member || exit 1; done
 	ar rcs $@ target/members/*.o
 

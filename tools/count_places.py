@@ -20,7 +20,8 @@ TYPE = re.compile(r"\b(?:u8|u16|u32|u64|usize)\b")
 class Function:
     def __init__(self, path, name, text, line):
         self.path, self.name, self.text, self.line = path, name, text, line
-        head, _, self.body = text.partition("\n{" if "\n{" in text else "{")
+        opened = re.search(r"\n *\{\n", text)
+        head, self.body = (text[: opened.start()], text[opened.end() :]) if opened else text.partition("{")[::2]
         self.head = re.sub(r"\s+", " ", head)
 
     def where(self):
@@ -74,6 +75,17 @@ def counted_loops(fn):
             yield fn.where()
 
 
+def running_places(fn):
+    """The numbers of a function that move over a slice in a loop and say where it is cut or read."""
+    loop = re.search(r"\b(?:while|for) [^{]*\{", fn.body)
+    for name in sorted(set(re.findall(r"let mut (\w+) = 0;", fn.body))) if loop else []:
+        behind = fn.body[loop.end() :]
+        moved = re.search(rf"\b{name} (?:\+= |= end)", behind)
+        cut = re.search(rf"\[(?:\w+ \* )?{name}\b|, {name}, ", behind)
+        if moved and cut:
+            yield f"{fn.where()} {name}"
+
+
 def alike(fns, shape):
     groups = collections.defaultdict(list)
     for fn in fns:
@@ -115,17 +127,22 @@ def places(top):
     add("1 a flag with values beside it", over(r"struct \w+(?:<[^>]*>)? \{[^}]*: bool,"))
     add("1 a function that answers refusals' numbers", where(lambda f: re.match(r"refuse", f.name) and "-> u64" in f.head))
     add("1 a number for a kind, a tag or a family", over(r"\b(?:kind|tag|family): u8\b"))
+    add("1 numbers turned into refusals", where(lambda f: re.search(r"\b\d+ => Refusal::", f.body)))
     add("2 functions alike but for numbers and types", alike(every, twin_shape))
     add("3 a loop that counts by hand", [place for fn in every for place in counted_loops(fn)])
     add("3 other while loops", [fn.where() for fn in every for _ in re.findall(r"\bwhile\b", fn.body) if not list(counted_loops(fn))])
+    add("3 numbers read at a place in a loop", where(lambda f: re.search(r"\b(?:for|while) [^{]*\{.*_at\(\w+, (?:\d \* |\w+\))", f.body, re.S)))
     add("4 a choice of the lesser or greater by hand", where(lambda f: re.search(r"if (\w+) < (\w+) \{\s*(?:return )?(?:\1|\2);?\s*\}", f.body)))
     add("4 a difference that stops at 0, by hand", where(lambda f: re.search(r"\{ (\w+) - (\w+) \} else \{ 0 \}", f.body)))
     add("4 a widening by `as`", over(r"\w[\w.\[\]()]* as (?:u32|u64|usize)\b"))
     add("4 an answer printed field by field", where(lambda f: len(re.findall(r"write_number\(out", f.body)) > 1))
+    add("4 a range tested by two comparisons", over(r"\w+ <= \*?(\w+) && (?:u64::from\(\*)?\1\)? <= \w+|\b(\w+) < \w+ \|\| \w+ < \2\b"))
     add("5 a fact in the contracts of three or more functions", repeated(every, lambda f: set(f.clauses()), 12))
     add("5 three parameters that travel together", repeated(every, travelling, 0))
     add("6 a place and a length, or a count beside an array", over(r"struct \w+(?:<[^>]*>)? \{[^}]*\b(?:at|count|next): usize,"))
     add("6 a slice with its length beside it", where(lambda f: re.search(r"&\[u8\], n: usize", f.head)))
+    add("6 a running place beside a slice", [place for fn in every for place in running_places(fn)])
+    add("7 a tag or kind that chooses by a number", over(r"\b(?:tag|kind) [!=]= \d+\b"))
     add("7 arms that differ in the number they pass on", where(lambda f: len(re.findall(r"\b\d => (\w+(?:::\w+)*)\(", f.body)) > 2))
     add("8 helper lemmas that repeat another", second_lemmas(top))
     return by_kind

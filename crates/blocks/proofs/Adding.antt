@@ -1,13 +1,13 @@
--- Sums over blocks: the counts of a part, and the invariants of the loops.
+-- Sums over blocks: the counts of a part, what is left behind a block, and the invariant of the loop.
 use mathlib.Core.Path.{◌≡◌, refl, ap, sym, ◌∙◌}
 use mathlib.Core.List.{List, [], ◌∷◌, ◌++◌, map, map-append, append_assoc}
 use mathlib.Core.Logic.{inl, inr}
-use Prim.Native.Nat.{ℕ, suc, ◌+◌, ◌*◌, ◌^◌, ◌≤◌, ◌<◌}
+use Prim.Native.Nat.{ℕ, suc, ◌+◌, ◌*◌, ◌^◌, ◌≤◌, ◌<◌, min}
 use native.Mathlib.Nat.{mul-le-mul_right}
 use native.Mathlib.Numerals.{add-one}
 use native.Mathlib.Omega.{arith}
-use lib.ListN.{length, get_or, take, drop, set, length-map, length-append, length-take, length-drop}
-use lib.Seq.{take-suc, take_all, drop-cons, take-take, set_at, length-take-le, get_or-take, get_or-drop, ext_get_or}
+use lib.ListN.{length, get_or, take, drop, set, length-map, length-append, length-take, length-drop, drop_of_length-le}
+use lib.Seq.{take-suc, take_all, drop-cons, drop-drop, take-take, set_at, length-take-le, get_or-take, get_or-drop, ext_get_or}
 use Rattle.std.proofs.lemmas.List.{drop-take}
 use Rattle.functions.specs.Words.{total, most_count, weighted, EachWithin}
 use Rattle.functions.specs.Families.{◌up◌}
@@ -23,27 +23,12 @@ use Rattle.blocks.specs.Block.{Block, divide}
 use Rattle.blocks.specs.Sums.{sum_up, Counted, counts_of}
 use Rattle.blocks.proofs.Dividing.{divide_count, block_at, divide_more}
 
--- numbers of at most `most` added up one after the other
-pub record AddedUp (most : ℕ) (numbers : List ℕ) (sum i : ℕ) : Type 0 where
-  pub sum_is : sum ≡ total (take i numbers)
-  pub sum_most : sum ≤ i * most
-
-pub total_next : (numbers : List ℕ) (i : ℕ) → i < length numbers → total (take (suc i) numbers) ≡ total (take i numbers) + get_or numbers i 0
+-- one number more
+total_next : (numbers : List ℕ) (i : ℕ) → i < length numbers → total (take (suc i) numbers) ≡ total (take i numbers) + get_or numbers i 0
 total_next numbers i l =
     ap total (take-suc numbers i 0 l)
     ∙ total_append (take i numbers) (get_or numbers i 0 ∷ [])
     ∙ omega (arith, total_cons (get_or numbers i 0) [], total_none)
-
-module _ (most : ℕ) (numbers : List ℕ) where
-  pub added_none : AddedUp most numbers 0 0
-  added_none = record { sum_is = sym total_none; sum_most = omega arith }
-
-  pub added_next : (sum i n : ℕ) → AddedUp most numbers sum i → i < length numbers → n ≡ get_or numbers i 0 → n ≤ most → AddedUp most numbers (sum + n) (i + 1)
-  added_next sum i n s l is small =
-      record { sum_is = rw add-one (omega (arith, s.sum_is, total_next numbers i l, is)); sum_most = omega (arith, s.sum_most) }
-
-  pub added_all : (sum i : ℕ) → AddedUp most numbers sum i → length numbers ≤ i → sum ≡ total numbers
-  added_all sum i s l = s.sum_is ∙ ap total (take_all i numbers l)
 
 -- n numbers of two bytes from a place on
 halfword_part : (bytes : List ℕ) (at n i : ℕ) → i < n → halfword (take (2 * n) (drop (2 * at) bytes)) (2 * i) ≡ halfword bytes (2 * (at + i))
@@ -83,22 +68,64 @@ module _ (bytes : List ℕ) (all at n : ℕ) (within : at + n ≤ all) where
           ∙ halfword_part bytes at n i l
           ∙ count_read bytes all (at + i) (omega arith) (λ none. omega arith) (inr each)
 
--- what is summed over n images from a place on
-module _ (bytes images : List ℕ) (at n k : ℕ) (c : Counted bytes images) (within : at + n ≤ length images) (k-is : k ≡ n) where
-  long : length (take n (drop at images)) ≡ n
-  long = length-take-le n (drop at images) (omega (arith, length-drop at images))
+-- what is left of the images and of the bytes of their counts, behind the first `at` images
+pub record Left (bytes images : List ℕ) (at : ℕ) (left_bytes left : List ℕ) : Type 0 where
+  pub images_are : left ≡ drop at images
+  pub bytes_are : left_bytes ≡ drop (2 * at) bytes
+
+pub nothing_passed : (bytes images : List ℕ) (at : ℕ) → at ≡ 0 → Left bytes images at bytes images
+nothing_passed bytes images at none = rw none (record { images_are = refl; bytes_are = refl })
+
+-- n images more, with the bytes of their counts, or with none
+module _ (bytes images : List ℕ) (at n m : ℕ) (left_bytes left : List ℕ) (l : Left bytes images at left_bytes left) (given : NoneOrEach bytes (length images)) (within : at + n ≤ length images) where
+  pub enough : n ≤ length left
+  enough = omega (arith, ap length l.images_are, length-drop at images)
+
+  module _ (m-is : m ≡ min (length left_bytes) (2 * n)) where
+    same_part : NoneOrEach bytes (length images) → (take m left_bytes ≡ take (2 * n) left_bytes) × (drop m left_bytes ≡ drop (2 * n) left_bytes)
+    same_part (inl none) =
+        let empty : length left_bytes ≡ 0 = omega (arith, ap length l.bytes_are, length-drop (2 * at) bytes) in (
+          take_all m left_bytes (omega arith) ∙ sym (take_all (2 * n) left_bytes (omega arith)),
+          drop_of_length-le left_bytes {i = m} (omega arith) ∙ sym (drop_of_length-le left_bytes {i = 2 * n} (omega arith)),
+        )
+    same_part (inr each) =
+        let all : m ≡ 2 * n = omega (arith, ap length l.bytes_are, length-drop (2 * at) bytes) in
+        (ap (λ (k : ℕ). take k left_bytes) all, ap (λ (k : ℕ). drop k left_bytes) all)
+
+    pub counts_here : take m left_bytes ≡ take (2 * n) (drop (2 * at) bytes)
+    counts_here = (same_part given).0 ∙ ap (take (2 * n)) l.bytes_are
+
+    pub passed_more : Left bytes images (at + n) (drop m left_bytes) (drop n left)
+    passed_more =
+        let place : 2 * at + 2 * n ≡ 2 * (at + n) = omega arith in
+        record {
+          images_are = ap (drop n) l.images_are ∙ drop-drop n at images;
+          bytes_are = (same_part given).1 ∙ ap (drop (2 * n)) l.bytes_are ∙ drop-drop (2 * n) (2 * at) bytes ∙ ap (λ (k : ℕ). drop k bytes) place;
+        }
+
+-- what is summed over these n images
+module _ (bytes images : List ℕ) (at n m : ℕ) (left_bytes left : List ℕ) (l : Left bytes images at left_bytes left) (c : Counted bytes images) (within : at + n ≤ length images) (m-is : m ≡ min (length left_bytes) (2 * n)) (block_bytes block : List ℕ) (bytes-is : block_bytes ≡ take m left_bytes) (block-is : block ≡ take n left) where
+  images_here : block ≡ take n (drop at images)
+  images_here = block-is ∙ ap (take n) l.images_are
+
+  bytes_here : block_bytes ≡ take (2 * n) (drop (2 * at) bytes)
+  bytes_here = bytes-is ∙ counts_here bytes images at n m left_bytes left l c.none_or_each within m-is
+
+  long : length block ≡ n
+  long = ap length images_here ∙ length-take-le n (drop at images) (omega (arith, length-drop at images))
+
+  pub part_fits : NoneOrEach block_bytes (length block) × (length block ≤ most_sizes)
+  part_fits =
+      (rw (long, bytes_here) (none_or_part bytes (length images) at n within c.none_or_each), omega (arith, long, c.few))
 
   -- a part is within the scale too
-  part_within : (d : ℕ) → EachWithin d images → EachWithin d (take n (drop at images))
+  part_within : (d : ℕ) → EachWithin d images → EachWithin d block
   part_within d most i l =
-      rw (get_or-take n (drop at images) i 0 (omega (arith, long)), get_or-drop at images i 0) (most (at + i) (omega (arith, long)))
+      rw (images_here, get_or-take n (drop at images) i 0 (omega (arith, long)), get_or-drop at images i 0) (most (at + i) (omega (arith, long)))
 
-  pub part_summed : (sum : ℕ) → (sum ≡ weighted (counts_for (halfwords (take (2 * n) (drop (2 * at) bytes))) (length (take k (drop at images)))) (take k (drop at images))) × ((most : ℕ) → EachWithin most (take k (drop at images)) → sum ≤ length (take k (drop at images)) * (most_count * most)) → (sum ≡ weighted (take n (drop at (counts_of bytes images))) (take n (drop at images))) × ((most : ℕ) → EachWithin most images → sum ≤ n * (most_count * most))
+  pub part_summed : (sum : ℕ) → (sum ≡ weighted (counts_for (halfwords block_bytes) (length block)) block) × ((most : ℕ) → EachWithin most block → sum ≤ length block * (most_count * most)) → (sum ≡ weighted (take n (drop at (counts_of bytes images))) (take n (drop at images))) × ((most : ℕ) → EachWithin most images → sum ≤ n * (most_count * most))
   part_summed sum s =
-      let here = rw k-is at s in (
-        here.0 ∙ rw (long, counts_part bytes (length images) at n within c.none_or_each),
-        λ most each. rw long at (here.1 most (part_within most each)),
-      )
+      (s.0 ∙ rw (long, bytes_here, images_here, counts_part bytes (length images) at n within c.none_or_each), λ most each. rw long at (s.1 most (part_within most each)))
 
 -- the sum over the first places, and over n more
 weighted_more : (at n : ℕ) (counts xs : List ℕ) → weighted (take (at + n) counts) (take (at + n) xs) ≡ weighted (take at counts) (take at xs) + weighted (take n (drop at counts)) (take n (drop at xs))
@@ -146,7 +173,7 @@ module _ (numbers counts images : List ℕ) (d : ℕ) (floors₀ : List ℕ) whe
         ap length s.floors_are ∙ length-append written (drop k floors₀) ∙ omega (arith, written_long, length-drop k floors₀, s.passed)
 
     module _ (l : k < length numbers) (n : ℕ) (is : n ≡ get_or numbers k 0) where
-      next_at : at + n ≡ total (take (suc k) numbers)
+      pub next_at : at + n ≡ total (take (suc k) numbers)
       next_at = omega (arith, s.at_is, is, total_next numbers k l)
 
       pub within_all : at + n ≤ total numbers

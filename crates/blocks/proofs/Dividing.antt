@@ -2,7 +2,7 @@
 use mathlib.Core.Path.{◌≡◌, refl, ap, ◌∙◌}
 use mathlib.Core.Bool.{true, ◌&&◌, and-eq-true_iff}
 use mathlib.Core.List.{List, [], ◌∷◌, ◌++◌, map}
-use Prim.Native.Nat.{ℕ, suc, ◌+◌, ◌/◌, ◌%◌, ◌≤◌}
+use Prim.Native.Nat.{ℕ, suc, ◌+◌, ◌≤◌}
 use native.Mathlib.Omega.{arith}
 use borrow.Author.Tests.{eqb-true, leb-true}
 use lib.Dec.{leb, eqb}
@@ -12,19 +12,13 @@ use Rattle.std.proofs.lemmas.List.{take-map, drop-map}
 use Rattle.functions.specs.Words.{total, weighted}
 use Rattle.functions.specs.Families.{◌up◌}
 use Rattle.functions.proofs.Quotient.{up_zero, up_reaches, up_least}
-use Rattle.fields.specs.Bytes.{halfwords}
 use Rattle.fields.specs.Parts.{Step}
 use Rattle.fields.specs.Grammar.{most_blocks}
 use Rattle.chains.specs.Chain.{chain_image, chain_scale, chain_floor}
 use Rattle.chains.specs.Sizes.{each}
-use Rattle.chains.proofs.Counts.{whole_halfwords}
 use Rattle.functions.proofs.Totals.{total_none, total_cons, weighted_none, weighted_split}
 use Rattle.blocks.specs.Block.{blocks_fit, Block, divide, block_floor}
 use Rattle.blocks.specs.Sums.{sum_up}
-
--- as many blocks as whole numbers
-pub block_count : (bytes : List ℕ) → length bytes % 2 ≡ 0 → length (halfwords bytes) ≡ length bytes / 2
-block_count bytes even = (whole_halfwords bytes even).count
 
 -- what 23 leaves of the numbers of blocks
 pub record Fit (numbers : List ℕ) (n : ℕ) : Type 0 where

@@ -1,5 +1,5 @@
 -- What the loop over blocks asks and leaves: images through a chain, cut into blocks.
-use Rattle.std.specs.Prelude.{◌≡◌, true, List, ◌++◌, map, ℕ, ◌*◌, ◌%◌, ◌≤◌, length, drop}
+use Rattle.std.specs.Prelude.{◌≡◌, true, List, ◌++◌, map, ℕ, ◌*◌, ◌≤◌, length, drop}
 use Rattle.functions.specs.Words.{limit, total, most_count, weighted, EachWithin}
 use Rattle.functions.specs.Families.{◌up◌}
 use Rattle.fields.specs.Bytes.{halfwords}
@@ -25,7 +25,6 @@ counts_of counts images = counts_for (halfwords counts) (length images)
 -- the bytes of counts and of block numbers, images within their scale, and places for what is written
 pub record Divided (counts numbers images : List ℕ) (scale : ℕ) (floors : List ℕ) : Type 0 where
   pub counted : Counted counts images
-  pub even : length numbers % 2 ≡ 0
   pub fit : blocks_fit (halfwords numbers) (length images) ≡ true
   pub within : EachWithin scale images
   pub positive : 1 ≤ scale

@@ -1,12 +1,12 @@
 // Blocks of a list: whether they divide it, and the sum of each, rounded up by a scale.
 #![tactic(auto)]
 
-ghost use Rattle.std.specs.Prelude.{◌≡◌, ◌⊎◌, ℕ, ◌+◌, ◌*◌, ◌%◌, ◌≤◌, length, take, drop};
-ghost use Rattle.functions.specs.Words.{total, most_count, weighted, EachWithin};
+ghost use Rattle.std.specs.Prelude.{◌≡◌, ◌/◌, ◌≤◌, length};
+ghost use Rattle.functions.specs.Words.{total};
 ghost use Rattle.fields.specs.Bytes.{halfwords};
 ghost use Rattle.fields.specs.Grammar.{most_blocks};
 ghost use Rattle.blocks.specs.Block.{blocks_fit};
-ghost use Rattle.blocks.specs.Sums.{Counted, counts_of, Divided, Summed};
+ghost use Rattle.blocks.specs.Sums.{Divided, Summed};
 
 // The sum over all blocks, and the total of the blocks' sums rounded up.
 #[derive(Clone, Copy)]
@@ -17,46 +17,24 @@ pub struct BlockSums {
 
 // The total of numbers of two bytes.
 fn add_up(numbers: &[u8]) -> u64
-    requires { (length numbers.now % 2 ≡ 0) × (length numbers.now ≤ 2 * most_blocks) }
+    requires { length numbers.now / 2 ≤ most_blocks }
     ensures { result ≡ total (halfwords numbers.now) }
 {
-    let mut sum = 0;
-    for i in 0..numbers.len() / 2 {
-        sum += fields::words::halfword_at(numbers, 2 * i);
-    }
-    sum
+    let (numbers, _) = numbers.as_chunks::<2>();
+    numbers
+        .iter()
+        .map(|n| u64::from(u16::from_be_bytes(*n)))
+        .sum()
 }
 
 // Whether the blocks divide a list of so many sizes: refusal 23 is that they do not.
-#[tactic(auto, using(crate::proofs::Dividing::block_count), unfolding(crate::specs::Block::blocks_fit))]
+#[tactic(auto, using(fields::proofs::Decoding::halfwords_count), unfolding(crate::specs::Block::blocks_fit))]
 pub fn blocks_fit(numbers: &[u8], sizes: usize) -> bool
-    requires { length numbers.now % 2 ≡ 0 }
     ensures { result ≡ blocks_fit (halfwords numbers.now) sizes }
 {
     numbers.len() / 2 <= fields::MOST_BLOCKS
         && chains::list::counts_positive(numbers)
         && add_up(numbers) == sizes as u64
-}
-
-// The counts of n sizes from a place on; none where none are given.
-fn counts_from(counts: &[u8], at: usize, n: usize) -> &[u8]
-    requires { (length counts.now ≡ 0) ⊎ (2 * (at + n) ≤ length counts.now) }
-    ensures { result.now ≡ take (2 * n) (drop (2 * at) counts.now) }
-{
-    if counts.is_empty() {
-        return counts;
-    }
-    &counts[2 * at..2 * (at + n)]
-}
-
-// The sum of count times image over n images from a place on.
-fn sum_from(counts: &[u8], images: &[u32], at: usize, n: usize) -> u64
-    requires { Counted counts.now images.now × (at + n ≤ length images.now) }
-    ensures { (result ≡ weighted (take n (drop at (counts_of counts.now images.now)))
-        (take n (drop at images.now)))
-        × ((most : ℕ) → EachWithin most images.now → result ≤ n * (most_count * most)) }
-{
-    chains::list::sum_of(counts_from(counts, at, n), &images[at..at + n])
 }
 
 // Writes each block's sum, divided by the scale and rounded up, and adds up the sums and what it wrote.
@@ -73,15 +51,22 @@ pub fn write_floors(
 {
     let mut sum = 0;
     let mut total = 0;
-    let mut at = 0;
-    for k in 0..numbers.len() / 2 {
-        let n = fields::words::halfword_at(numbers, 2 * k) as usize;
-        let part = sum_from(counts, images, at, n);
+    let mut left = images;
+    let mut left_counts = counts;
+    let (blocks, _) = numbers.as_chunks::<2>();
+    for (k, number) in blocks.iter().enumerate() {
+        let n = usize::from(u16::from_be_bytes(*number));
+        let (block, others) = left.split_at(n);
+        // Where the list has no counts, no block has any.
+        let (block_counts, other_counts) = left_counts.split_at(left_counts.len().min(2 * n));
+        let part = chains::list::sum_of(block_counts, block);
         let floor = functions::round_up(part, scale);
+        // By place: of a buffer lent by `iter_mut` through `zip` nothing is known at the loop's end.
         floors[k] = floor as u32;
         sum += part;
         total += floor;
-        at += n;
+        left = others;
+        left_counts = other_counts;
     }
     BlockSums { sum, total }
 }

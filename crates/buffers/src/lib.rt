@@ -1,7 +1,7 @@
 // Buffers of the case programs: what they hold before a call, and checksums of them after it.
 #![tactic(auto)]
 
-ghost use Rattle.std.specs.Prelude.{◌≡◌, ℕ, ◌+◌, ◌*◌, ◌%◌, ◌^◌, ◌<◌, ◌≤◌, EachIndex, length, map, min, slice_index};
+ghost use Rattle.std.specs.Prelude.{◌≡◌, ℕ, ◌+◌, ◌*◌, ◌%◌, ◌^◌, ◌<◌, ◌≤◌, EachIndex, length, map, min, take, slice_index};
 ghost use Rattle.std.specs.List.{HoldsAt};
 ghost use Rattle.buffers.specs.Checksum.{checksum, with_value};
 
@@ -12,6 +12,15 @@ pub fn at_most(value: u64, limit: usize) -> usize
     ensures value { result ≡ min value limit }
 {
     value.min(limit as u64) as usize
+}
+
+// The front of a buffer: so many places, or all where it has fewer.
+pub fn front<T>(buffer: &mut [T], places: u64) -> &mut [T]
+    ensures size { length result.now ≡ min places (length buffer.old) }
+    ensures content { result.now ≡ take places buffer.old }
+{
+    let count = at_most(places, buffer.len());
+    &mut buffer[..count]
 }
 
 // Two functions: one for both widths would need a trait with the two moduli, which is longer.
@@ -88,6 +97,15 @@ mod tests {
         assert_eq!(rt; checksum(&[1u32, 2]), 33);
         assert_eq!(rt; checksum(&[1u16, 2]), 33);
         assert_eq!(rt; checksum(&[4_294_967_296u64]), 5);
+    }
+
+    #[test]
+    fn lends_a_front(rt: HostRuntime) {
+        let mut buffer = [7u32, 8, 9];
+        assert_eq!(rt; &*front(&mut buffer, 2), [7, 8].as_slice());
+        assert_eq!(rt; &*front(&mut buffer, 5), [7, 8, 9].as_slice());
+        front(&mut buffer, 1).fill(0);
+        assert_eq!(rt; buffer, [0, 8, 9]);
     }
 
     #[test]

@@ -7,7 +7,8 @@ ghost use Rattle.cases.specs.Onward.{MovesOn, PassesSome};
 use decimal::Numbers;
 use std::io::{self, BufWriter, Read, Stdout, Write};
 
-// Runs the cases of a text, one after the other.
+// Runs the cases of a text, one after the other. The loop goes over what is left of the text: an iterator of its
+// cases would be longer.
 fn run_cases<W: Write, F: Fn(&mut W, &mut Numbers<'_>) -> io::Result<()>>(
     out: &mut W,
     numbers: &mut Numbers<'_>,

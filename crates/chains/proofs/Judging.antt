@@ -1,20 +1,20 @@
 -- A step judged: from what the lower crates answer.
 use mathlib.Core.Path.{◌≡◌, refl, ap, sym, ◌∙◌}
-use mathlib.Core.Bool.{Bool, true, false, cond, not}
+use mathlib.Core.Bool.{Bool, true, false, cond}
 use mathlib.Core.List.{List, [], ◌++◌}
 use Prim.Native.Nat.{ℕ, ◌-◌, ◌*◌, ◌/◌, ◌%◌, ◌≤◌}
 use native.Mathlib.Omega.{arith}
-use borrow.Author.Tests.{le-ltb, eq-eqb}
-use lib.Dec.{ltb, eqb}
+use borrow.Author.Tests.{eq-eqb}
+use lib.Dec.{eqb}
 use lib.ListN.{length, get_or, drop}
-use Rattle.std.specs.Prelude.{Ok, Err}
+use Rattle.std.specs.Prelude.{None, Ok, Err}
 use Rattle.refusals.specs.Number.{number_of}
 use Rattle.refusals.specs.declared.Refusal.{Refusal}
 use Rattle.refusals.specs.declared.Refusal.TheVariants.{TableCapacity}
 use Rattle.functions.specs.Families.{family_scale}
 use Rattle.functions.specs.Image.{family_refusal}
-use Rattle.tables.specs.Table.{entry, table_capacity, table_scale, best, counterexample}
-use Rattle.tables.specs.Check.{most_entries, within_limit, form_refusal, entries_refusal, length_refusal, table_refusal, table_answer, list_after}
+use Rattle.tables.specs.Table.{table_capacity, table_scale, counterexample}
+use Rattle.tables.specs.Check.{table_refusal, table_answer, list_after}
 use Rattle.tables.specs.declared.TableAnswer.{TableAnswer}
 use Rattle.tables.proofs.Entries.{capacity_is, scale_is_last}
 use Rattle.tables.proofs.Outcome.{same_refusal, list_after_lem, answer_is}
@@ -28,7 +28,7 @@ use Rattle.chains.proofs.Counts.{whole_words}
 
 -- a refusal that is told with no place and no list
 abbrev pub alone : Refusal → Refused
-alone refusal = record { refusal = refusal; row = 0; step = 0; length = 0 }
+alone refusal = record { refusal = refusal; row = None; step = None; length = 0 }
 
 -- a family step leaves the list buffer
 module _ (c family p q : ℕ) (l : List ℕ) where
@@ -54,14 +54,6 @@ module _ (c : ℕ) (t l : List ℕ) where
       let none = eq-eqb (table_capacity t) c same in
       record { told = (rw (none, passed), e); list_is = rw (none, passed) }
 
--- the numbers of a table that there is room for, by the tests one after the other
-numbers : (a b d over : Bool) (n : ℕ) → n ≡ cond (eqb (cond a 8 (cond b 9 (cond d 10 0))) 0) (cond over 11 0) (cond a 8 (cond b 9 (cond d 10 0))) → (n ≡ 0 → ⊥) → (8 ≤ n) × (n ≤ 11)
-numbers true b d over n is some = (omega (arith, is), omega (arith, is))
-numbers false true d over n is some = (omega (arith, is), omega (arith, is))
-numbers false false true over n is some = (omega (arith, is), omega (arith, is))
-numbers false false false true n is some = (omega (arith, is), omega (arith, is))
-numbers false false false false n is some = absurd (some is)
-
 -- the entries of a table checked, at its own capacity
 module _ (t w l : List ℕ) (room : length t ≤ length w) (list_room : table_capacity t ≤ length l) (r : TableAnswer) (answered : r ≡ table_answer t (length w) (length l)) (l' : List ℕ) (listed : l' ≡ list_after t w l) where
   by_number : table_refusal t (length w) (length l) ≡ r.number
@@ -81,14 +73,7 @@ module _ (t w l : List ℕ) (room : length t ≤ length w) (list_room : table_ca
   unfolding step_refusal
   refusal_is = rw (eq-eqb (table_capacity t) (table_capacity t) refl) contents_is
 
-  pub number_within : 2 ≤ length t → length t ≤ most_entries → (r.number ≡ 0 → ⊥) → (8 ≤ r.number) × (r.number ≤ 11)
-  unfolding table_refusal length_refusal entries_refusal form_refusal
-  number_within least most =
-      let list_long : length t - 1 ≤ length l = omega (arith, list_room, capacity_is t) in
-      numbers (not (eqb (entry t 0) 0)) (eqb (table_scale t) 0) (not (within_limit t)) (ltb (table_scale t) (best t (table_capacity t))) r.number
-      (rw (le-ltb (length t) 2 least, le-ltb most_entries (length t) most, le-ltb (length w) (length t) room, le-ltb (length l) (length t - 1) list_long) at (sym by_number))
-
-  pub entries_refused : (refusal : Refusal) → number_of refusal ≡ r.number → StepJudged (table_capacity t) (on_table t) l (Err (record { refusal = refusal; row = 0; step = 0; length = r.length })) l'
+  pub entries_refused : (refusal : Refusal) → number_of refusal ≡ r.number → StepJudged (table_capacity t) (on_table t) l (Err (record { refusal = refusal; row = None; step = None; length = r.length })) l'
   unfolding step_list
   entries_refused refusal is =
       record {

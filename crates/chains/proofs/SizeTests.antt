@@ -1,43 +1,27 @@
 -- The tests of sizes and of counts, number by number.
-use mathlib.Core.Path.{◌≡◌, refl, ap, ◌∙◌}
-use mathlib.Core.Bool.{Bool, true, false, ◌&&◌, and-eq-true_iff}
-use mathlib.Core.List.{List, [], ◌∷◌}
-use Prim.Native.Nat.{ℕ, zero, suc, ◌+◌, ◌≤◌, ◌<◌}
+use mathlib.Core.Path.{◌≡◌, refl, ap, sym, ◌∙◌}
+use mathlib.Core.Bool.{Bool, true, ◌&&◌, and-eq-true_iff}
+use mathlib.Core.List.{List, [], ◌∷◌, map}
+use Prim.Native.Nat.{ℕ, zero, suc, ◌≤◌, ◌<◌}
 use native.Mathlib.Omega.{arith}
-use native.Mathlib.Numerals.{add-one}
-use borrow.Author.Tests.{leb-true, le-leb, lt-leb}
+use borrow.Author.Tests.{leb-true}
 use lib.Dec.{leb}
-use lib.ListN.{length, get_or, drop, drop_of_length-le, replicate}
-use lib.Seq.{drop-cons}
+use lib.ListN.{length, get_or, replicate}
+use Rattle.std.specs.List.{list_all}
+use Rattle.std.proofs.lemmas.List.Folds.{list_all-map}
 use Rattle.fields.specs.Parts.{counts_for}
 use Rattle.chains.specs.Sizes.{each, sizes_within, counts_positive}
 
-module _ (test : ℕ → Bool) (xs : List ℕ) where
-  -- the number that stands at i decides with those behind it
-  module _ (i x : ℕ) (x-is : x ≡ get_or xs i 0) (l : i < length xs) where
-    each_next : each test (drop i xs) ≡ test x && each test (drop (suc i) xs)
-    unfolding each
-    each_next = ap (each test) (drop-cons xs i 0 l) ∙ rw x-is
+-- the definition's test of each number is the library's
+pub each_is_all : (test : ℕ → Bool) (xs : List ℕ) → each test xs ≡ list_all test xs
+unfolding each
+each_is_all test [] = refl
+each_is_all test (x ∷ xs) = ap (λ (rest : Bool). test x && rest) (each_is_all test xs)
 
-    pub each_fails : test x ≡ false → each test (drop i xs) ≡ false
-    each_fails e = each_next ∙ rw e
-
-    pub each_holds : test x ≡ true → each test (drop i xs) ≡ each test (drop (i + 1) xs)
-    each_holds e = each_next ∙ rw (e, add-one)
-
-  pub each_passed : (i : ℕ) → length xs ≤ i → each test (drop i xs) ≡ true
-  unfolding each
-  each_passed i l = ap (each test) (drop_of_length-le xs {i = i} l)
-
-module _ (least c : ℕ) (xs : List ℕ) (i x : ℕ) (x-is : x ≡ get_or xs i 0) (l : i < length xs) where
-  pub size_below : x < least → sizes_within least c (drop i xs) ≡ false
-  size_below h = each_fails _ xs i x x-is l (rw (lt-leb least x h))
-
-  pub size_above : least ≤ x → c < x → sizes_within least c (drop i xs) ≡ false
-  size_above h k = each_fails _ xs i x x-is l (rw (le-leb least x h, lt-leb x c k))
-
-  pub size_passes : least ≤ x → x ≤ c → sizes_within least c (drop i xs) ≡ sizes_within least c (drop (i + 1) xs)
-  size_passes h k = each_holds _ xs i x x-is l (rw (le-leb least x h, le-leb x c k))
+-- and so it is of numbers that are read chunk by chunk
+module _ (test : ℕ → Bool) (read : List ℕ → ℕ) (chunks : List (List ℕ)) where
+  pub each_of_chunks : (numbers : List ℕ) → map read chunks ≡ numbers → list_all (λ chunk. test (read chunk)) chunks ≡ each test numbers
+  each_of_chunks numbers is = sym (list_all-map test read chunks) ∙ ap (list_all test) is ∙ sym (each_is_all test numbers)
 
 -- sizes that pass are within the capacity
 pub sizes_most : (least c : ℕ) (sizes : List ℕ) → sizes_within least c sizes ≡ true → (i : ℕ) → i < length sizes → get_or sizes i 0 ≤ c

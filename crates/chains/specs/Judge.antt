@@ -1,7 +1,8 @@
 -- Steps, and lists of sizes before them, judged in order, document 01, "Operations and what they refuse", Job.
-use Rattle.std.specs.Prelude.{Bool, cond, ◌≡◌, Result, Ok, Err, List, [], ◌∷◌, ◌++◌, ℕ, suc, ◌-◌, eqb, length, get_or, take, drop}
+use Rattle.std.specs.Prelude.{Bool, cond, ◌≡◌, Option, None, Some, Result, Ok, Err, List, [], ◌∷◌, ◌++◌, ℕ, suc, ◌-◌, ◌≤◌, eqb, length, get_or, take, drop}
 use Rattle.refusals.specs.Number.{number_of}
 use Rattle.tables.specs.Table.{table_capacity, counterexample}
+use Rattle.tables.specs.Check.{most_entries}
 use Rattle.tables.specs.Promise.{Overshoots}
 use Rattle.fields.specs.Parts.{Step, on_family, on_table}
 use Rattle.chains.specs.Chain.{step_scale, step_refusal, chain_scale}
@@ -13,13 +14,18 @@ unfoldable pub step_list : ℕ → Step → List ℕ
 step_list number (on_family family p q) = []
 step_list number (on_table t) = cond (eqb number 11) (counterexample t) []
 
+-- the place of a row or of a step that is refused, counted from 1, or 0
+abbrev pub place_of : Option ℕ → ℕ
+place_of None = 0
+place_of (Some place) = place
+
 -- what is told of a step: its scale where it is accepted, and else its number and the length of its list
 abbrev pub StepTold : ℕ → Step → Result ℕ Refused → Type 0
 StepTold c s (Ok scale) = (step_refusal c s ≡ 0) × (scale ≡ step_scale c s)
 StepTold c s (Err refused) =
     record {
       number_is : number_of refused.refusal ≡ step_refusal c s;
-      row_is : refused.row ≡ 0;
+      row_is : place_of refused.row ≡ 0;
       length_is : refused.length ≡ length (step_list (step_refusal c s) s);
     }
 
@@ -70,8 +76,8 @@ pub record StepOvershoots (c : ℕ) (steps : List Step) (place : ℕ) (list : Li
 -- what is told of a judgement: nothing where its number is 0, and else all but the list, of which the length is told
 pub record RefusedAs (r : Judgement) (refused : Refused) : Type 0 where
   pub number_is : number_of refused.refusal ≡ r.number
-  pub row_is : refused.row ≡ r.row
-  pub step_is : refused.step ≡ r.step
+  pub row_is : place_of refused.row ≡ r.row
+  pub step_is : place_of refused.step ≡ r.step
   pub length_is : refused.length ≡ length r.list
 
 abbrev pub Told : {A : Type 0} → Judgement → Result A Refused → Type 0
@@ -81,6 +87,11 @@ Told r (Err refused) = RefusedAs r refused
 -- the list buffer with the list of a judgement
 unfoldable pub list_by : Judgement → List ℕ → List ℕ
 list_by r list = r.list ++ drop (length r.list) list
+
+-- the room that a check of any table asks for
+pub record CheckRoom (working list : List ℕ) : Type 0 where
+  pub for_bests : most_entries ≤ length working
+  pub for_list : most_entries - 1 ≤ length list
 
 -- judged as `r`, with the list buffer afterwards
 pub record Judged {A : Type 0} (r : Judgement) (list : List ℕ) (outcome : Result A Refused) (list' : List ℕ) : Type 0 where

@@ -3,19 +3,19 @@ ghost use Rattle.std.specs.Prelude.{◌≡◌, map, ◌*◌, length};
 ghost use Rattle.tables.specs.Table.{entry, table_scale};
 ghost use Rattle.fields.specs.Bytes.{words};
 ghost use Rattle.fields.specs.Parts.{on_family};
-ghost use Rattle.fields.specs.Record.{step_in, StepWithin, steps_in, StepsWithin};
+ghost use Rattle.fields.specs.Within.{StepWithin};
+ghost use Rattle.fields.specs.Record.{step_in, steps_in};
 ghost use Rattle.chains.specs.Apply.{Appliable, Applied, EntriesFor, ChainAppliable, ChainApplied};
 
-use fields::{JobStep, JobSteps};
+use fields::{JobStep, JobSteps, StepFunction};
 use functions::FamilyStep;
 
 #[tactic(auto, unfolding(crate::specs::Chain::step_image, crate::specs::Chain::step_scale, crate::specs::Chain::step_refusal))]
-fn apply_family(step: JobStep<'_>, capacity: u64, images: &mut [u32]) -> u64
-    requires { Appliable capacity (on_family step.family step.p step.q) images.old }
-    ensures { Applied capacity (on_family step.entry.family step.entry.p step.entry.q)
-        images.old result images.new }
+fn apply_family(family: u8, p: u64, q: u64, capacity: u64, images: &mut [u32]) -> u64
+    requires { Appliable capacity (on_family family p q) images.old }
+    ensures { Applied capacity (on_family family p q) images.old result images.new }
 {
-    let accepted = FamilyStep::accepted(capacity, step.family, step.p, step.q);
+    let accepted = FamilyStep::accepted(capacity, family, p, q);
     accepted.map(images);
     accepted.scale
 }
@@ -25,8 +25,9 @@ fn map_entries(entries: &[u8], images: &mut [u32])
     requires { EntriesFor entries.now images.old }
     ensures { images.new ≡ map (entry (words entries.now)) images.old }
 {
+    let (numbers, _) = entries.as_chunks::<4>();
     for image in images.iter_mut() {
-        *image = fields::words::word_at(entries, 4 * *image as usize) as u32;
+        *image = u32::from_be_bytes(numbers[*image as usize]);
     }
 }
 
@@ -44,15 +45,15 @@ fn apply_step(step: JobStep<'_>, capacity: u64, images: &mut [u32]) -> u64
     requires { StepWithin step × Appliable capacity (step_in step) images.old }
     ensures { Applied capacity (step_in step.entry) images.old result images.new }
 {
-    if step.tag == 4 {
-        return apply_family(step, capacity, images);
+    match step.function {
+        StepFunction::Family { family, p, q } => apply_family(family, p, q, capacity, images),
+        StepFunction::Table(entries) => apply_table(entries, images),
     }
-    apply_table(step.entries, images)
 }
 
 // All steps, one after the other, and the scale that they leave.
 fn apply_steps(steps: JobSteps<'_>, capacity: u64, images: &mut [u32]) -> u64
-    requires { StepsWithin steps × ChainAppliable capacity (steps_in steps) images.old }
+    requires { ChainAppliable capacity (steps_in steps) images.old }
     ensures { ChainApplied capacity (steps_in steps.entry) images.old result images.new }
 {
     let mut present = capacity;
@@ -64,7 +65,7 @@ fn apply_steps(steps: JobSteps<'_>, capacity: u64, images: &mut [u32]) -> u64
 
 // The images of a list of sizes, in as many places, and the scale.
 pub fn map_list(steps: JobSteps<'_>, capacity: u64, sizes: &[u8], images: &mut [u32]) -> u64
-    requires { StepsWithin steps × ChainAppliable capacity (steps_in steps) (words sizes.now)
+    requires { ChainAppliable capacity (steps_in steps) (words sizes.now)
         × (length sizes.now ≡ 4 * length images.old) }
     ensures { ChainApplied capacity (steps_in steps.entry) (words sizes.now) result images.new }
 {

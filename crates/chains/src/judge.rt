@@ -1,32 +1,19 @@
-// The steps of a job, judged in order at the capacity that each gets, and lists of sizes before them. What
-// `StepsWithin` says of the steps stands in contracts: a ghost field cannot name the struct that it is in.
-ghost use Rattle.std.specs.Prelude.{◌≡◌, true, ◌*◌, ◌%◌, ◌≤◌, length};
-ghost use Rattle.refusals.specs.Number.{number_of};
+// The steps of a job, judged in order at the capacity that each gets, and lists of sizes before them.
+//
+// `checked` says that these steps' tables passed 8 to 11 before, at an earlier row. It stays beside `working` and
+// `list` in each call: a struct with the two `&mut` would say in each contract that it keeps its references.
+ghost use Rattle.std.specs.Prelude.{◌≡◌, true, length};
 ghost use Rattle.tables.specs.Table.{table_capacity};
-ghost use Rattle.tables.specs.Check.{most_entries};
 ghost use Rattle.fields.specs.Bytes.{halfwords, words};
 ghost use Rattle.fields.specs.Parts.{on_table};
-ghost use Rattle.fields.specs.Record.{step_in, StepWithin, steps_in, StepsWithin};
+ghost use Rattle.fields.specs.Within.{TableWithin, StepWithin};
+ghost use Rattle.fields.specs.Record.{step_in, steps_in};
 ghost use Rattle.chains.specs.Chain.{contents_refusal, TablesPass};
-ghost use Rattle.chains.specs.Judge.{StepJudged, judge_chain, judge_list, Judged};
+ghost use Rattle.chains.specs.Judge.{StepJudged, judge_chain, judge_list, CheckRoom, Judged};
 
 use crate::{LIST_PLACES, Refused, SizeList, list};
-use fields::{JobStep, JobSteps};
+use fields::{JobStep, JobSteps, StepFunction};
 use refusals::Refusal;
-
-// The refusal that a number of the table check stands for, where its buffers have room: the check is a
-// function for C, and answers with a number.
-fn refusal_of(number: u64) -> Refusal
-    requires { (8 ≤ number) × (number ≤ 11) }
-    ensures { number_of result ≡ number }
-{
-    match number {
-        8 => Refusal::FirstEntry,
-        9 => Refusal::LastEntry,
-        10 => Refusal::EntryOverLimit,
-        _ => Refusal::Overshoots,
-    }
-}
 
 // The entries of a table decoded and checked: the step judged at its table's own capacity.
 fn judge_entries(
@@ -34,28 +21,19 @@ fn judge_entries(
     working: &mut [u64; tables::MOST_ENTRIES],
     list: &mut [u32; LIST_PLACES],
 ) -> Result<u64, Refused>
-    requires { (length entries.now % 4 ≡ 0) × (8 ≤ length entries.now)
-        × (length entries.now ≤ 4 * most_entries) }
+    requires { TableWithin entries.now }
     ensures { StepJudged (table_capacity (words entries.now)) (on_table (words entries.now))
         list.old result list.new }
 {
     let mut places = [0u32; tables::MOST_ENTRIES];
     let table = &mut places[..entries.len() / 4];
     fields::words::decode_words(entries, table);
-    let checked = tables::windowfloor_table_check(table, &mut working[..], &mut list[..]);
-    if checked.number != 0 {
-        return Err(Refused {
-            refusal: refusal_of(checked.number),
-            row: 0,
-            step: 0,
-            length: checked.length,
-        });
-    }
+    tables::check(table, &mut working[..], &mut list[..])?;
     Ok(u64::from(table[table.len() - 1]))
 }
 
 // A table step at a capacity: 18 is told by the table's length, before anything of it is read or
-// written. Where `checked`, its entries are known to pass 8 to 11, and only the last one is read.
+// written. Where `checked`, only the last entry is read.
 fn judge_table_step(
     entries: &[u8],
     capacity: u64,
@@ -63,8 +41,7 @@ fn judge_table_step(
     working: &mut [u64; tables::MOST_ENTRIES],
     list: &mut [u32; LIST_PLACES],
 ) -> Result<u64, Refused>
-    requires { (length entries.now % 4 ≡ 0) × (8 ≤ length entries.now)
-        × (length entries.now ≤ 4 * most_entries)
+    requires { TableWithin entries.now
         × (checked ≡ true → contents_refusal (on_table (words entries.now)) ≡ 0) }
     ensures judged { StepJudged capacity (on_table (words entries.now))
         list.old result list.new }
@@ -81,7 +58,7 @@ fn judge_table_step(
     judge_entries(entries, working, list)
 }
 
-// A step at a capacity, and its scale. Where `checked`, its table is known to pass 8 to 11.
+// A step at a capacity, and its scale.
 fn judge_step(
     step: JobStep<'_>,
     capacity: u64,
@@ -92,13 +69,17 @@ fn judge_step(
     requires { StepWithin step × (checked ≡ true → contents_refusal (step_in step) ≡ 0) }
     ensures { StepJudged capacity (step_in step.entry) list.old result list.new }
 {
-    if step.tag == 4 {
-        let accepted = functions::judge_family(capacity, step.family, step.p, step.q)?;
-        return Ok(accepted.scale);
+    match step.function {
+        StepFunction::Family { family, p, q } => {
+            let accepted = functions::judge_family(capacity, family, p, q)?;
+            Ok(accepted.scale)
+        }
+        StepFunction::Table(entries) => judge_table_step(entries, capacity, checked, working, list),
     }
-    judge_table_step(step.entries, capacity, checked, working, list)
 }
 
+// The steps in order. The last clause is for the caller, who has the array from `first_chunk_mut` and learns
+// by this clause that the list is still as long.
 fn judge_steps(
     steps: JobSteps<'_>,
     capacity: u64,
@@ -106,20 +87,17 @@ fn judge_steps(
     working: &mut [u64; tables::MOST_ENTRIES],
     list: &mut [u32; LIST_PLACES],
 ) -> Result<(), Refused>
-    requires { StepsWithin steps × (checked ≡ true → TablesPass (steps_in steps)) }
-    ensures { Judged (judge_chain capacity 0 (steps_in steps.entry)) list.old result list.new }
+    requires { checked ≡ true → TablesPass (steps_in steps) }
+    ensures judged { Judged (judge_chain capacity 0 (steps_in steps.entry))
+        list.old result list.new }
+    ensures length { length list.new ≡ length list.old }
 {
     let mut present = capacity;
     for (i, step) in steps.items[..steps.count].iter().enumerate() {
-        match judge_step(*step, present, checked, working, list) {
-            Ok(scale) => present = scale,
-            Err(refused) => {
-                return Err(Refused {
-                    step: (i + 1) as u64,
-                    ..refused
-                });
-            }
-        }
+        present = judge_step(*step, present, checked, working, list).map_err(|refused| Refused {
+            step: Some((i + 1) as u64),
+            ..refused
+        })?;
     }
     Ok(())
 }
@@ -129,16 +107,19 @@ pub fn judge_list(
     steps: JobSteps<'_>,
     checked: bool,
     size_list: SizeList<'_>,
-    working: &mut [u64; tables::MOST_ENTRIES],
-    list: &mut [u32; LIST_PLACES],
+    working: &mut [u64],
+    list: &mut [u32],
 ) -> Result<(), Refused>
-    requires { StepsWithin steps × (checked ≡ true → TablesPass (steps_in steps))
-        × (length size_list.sizes.now % 4 ≡ 0) × (length size_list.counts.now % 2 ≡ 0) }
+    requires { (checked ≡ true → TablesPass (steps_in steps))
+        × CheckRoom working.old list.old }
     ensures { Judged (judge_list size_list.entry.least size_list.entry.capacity
         (words size_list.entry.sizes.now) (halfwords size_list.entry.counts.now)
         size_list.entry.divided (steps_in steps.entry))
         list.old result list.new }
 {
     list::refuse_list(size_list)?;
+    // The room that is asked for: the arrays' types keep it.
+    let working = working.first_chunk_mut().unwrap();
+    let list = list.first_chunk_mut().unwrap();
     judge_steps(steps, size_list.capacity, checked, working, list)
 }

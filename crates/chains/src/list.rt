@@ -1,7 +1,7 @@
 // Lists of sizes and their counts: tested where they lie, and summed.
-ghost use Rattle.std.specs.Prelude.{◌≡◌, ◌⊎◌, ℕ, ◌+◌, ◌*◌, ◌%◌, ◌≤◌, ◌<◌, length, get_or};
+ghost use Rattle.std.specs.Prelude.{◌≡◌, ℕ, ◌*◌, ◌≤◌, length};
 ghost use Rattle.refusals.specs.Number.{number_in};
-ghost use Rattle.functions.specs.Words.{most_count, weighted, EachWithin};
+ghost use Rattle.functions.specs.Words.{total, most_count, weighted, EachWithin};
 ghost use Rattle.fields.specs.Bytes.{halfwords, words};
 ghost use Rattle.fields.specs.Parts.{counts_for};
 ghost use Rattle.fields.specs.Grammar.{most_sizes};
@@ -10,42 +10,31 @@ ghost use Rattle.chains.specs.Sizes.{sizes_within, counts_positive, list_refusal
 use crate::SizeList;
 use refusals::Refusal;
 
-// Whether each number is from least to the capacity.
+// Whether each number is from least to the capacity. The crate of lists has its like over numbers that
+// are no bytes. Each is one `all` of the library: one function of both would take the reading as a
+// parameter, and be no plainer.
 fn sizes_within(bytes: &[u8], least: u64, capacity: u64) -> bool
-    requires { length bytes.now % 4 ≡ 0 }
     ensures { result ≡ sizes_within least capacity (words bytes.now) }
 {
-    for i in 0..bytes.len() / 4 {
-        if !(least..=capacity).contains(&fields::words::word_at(bytes, 4 * i)) {
-            return false;
-        }
-    }
-    true
+    let (sizes, _) = bytes.as_chunks::<4>();
+    sizes.iter().all(|size| (least..=capacity).contains(&u64::from(u32::from_be_bytes(*size))))
 }
 
 // Whether each number of two bytes is 1 or more.
 pub fn counts_positive(bytes: &[u8]) -> bool
-    requires { length bytes.now % 2 ≡ 0 }
     ensures { result ≡ counts_positive (halfwords bytes.now) }
 {
-    for i in 0..bytes.len() / 2 {
-        if fields::words::halfword_at(bytes, 2 * i) < 1 {
-            return false;
-        }
-    }
-    true
+    let (counts, _) = bytes.as_chunks::<2>();
+    counts.iter().all(|count| 1 <= u16::from_be_bytes(*count))
 }
 
 // Refusals 1, 17, 22 and 23.
 #[tactic(auto, unfolding(crate::specs::Sizes::list_refusal))]
 pub(crate) fn refuse_list(list: SizeList<'_>) -> Result<(), Refusal>
-    requires { (length list.sizes.now % 4 ≡ 0) × (length list.counts.now % 2 ≡ 0) }
     ensures { number_in result ≡ list_refusal list.entry.least list.entry.capacity
         (words list.entry.sizes.now) (halfwords list.entry.counts.now) list.entry.divided }
 {
-    if !functions::capacity_fits(list.capacity) {
-        return Err(Refusal::Capacity);
-    }
+    functions::accept_capacity(list.capacity)?;
     if !sizes_within(list.sizes, list.least, list.capacity) {
         return Err(Refusal::Size);
     }
@@ -58,16 +47,26 @@ pub(crate) fn refuse_list(list: SizeList<'_>) -> Result<(), Refusal>
     Ok(())
 }
 
-// The count of the size at a place, or 1 where there are no counts.
-fn count_at(bytes: &[u8], i: usize) -> u64
-    requires { (length bytes.now ≡ 0) ⊎ (2 * i + 2 ≤ length bytes.now) }
-    ensures { (result ≤ most_count) × ((n : ℕ) → i < n → NoneOrEach bytes.now n
-        → result ≡ get_or (counts_for (halfwords bytes.now) n) i 0) }
+// The sum of numbers, each counted once. Of the two ways of `sum_of` each asks for as few numbers as it does.
+fn plain_sum(list: &[u32]) -> u64
+    requires { length list.now ≤ most_sizes }
+    ensures { result ≡ total list.now }
 {
-    if bytes.is_empty() {
-        return 1;
+    list.iter().map(|x| u64::from(*x)).sum()
+}
+
+// The sum of count times number.
+fn counted_sum(bytes: &[u8], list: &[u32]) -> u64
+    requires { (length bytes.now ≡ 2 * length list.now) × (length list.now ≤ most_sizes) }
+    ensures { (result ≡ weighted (halfwords bytes.now) list.now)
+        × ((most : ℕ) → EachWithin most list.now → result ≤ length list.now * (most_count * most)) }
+{
+    let (counts, _) = bytes.as_chunks::<2>();
+    let mut sum = 0;
+    for (count, x) in counts.iter().zip(list) {
+        sum += u64::from(u16::from_be_bytes(*count)) * u64::from(*x);
     }
-    fields::words::halfword_at(bytes, 2 * i)
+    sum
 }
 
 // Sums count times number: at most the greatest of both for each number.
@@ -77,9 +76,8 @@ pub fn sum_of(bytes: &[u8], list: &[u32]) -> u64
         list.now)
         × ((most : ℕ) → EachWithin most list.now → result ≤ length list.now * (most_count * most)) }
 {
-    let mut sum = 0;
-    for (i, x) in list.iter().enumerate() {
-        sum += count_at(bytes, i) * u64::from(*x);
+    if bytes.is_empty() {
+        return plain_sum(list);
     }
-    sum
+    counted_sum(bytes, list)
 }

@@ -44,7 +44,8 @@ impl<'a> Numbers<'a> {
         self.text.is_empty()
     }
 
-    // Passes the ends of lines that come next.
+    // Passes the ends of lines that come next. This loop and that of `next_number` go over what is left of the
+    // text: an iterator's type would be longer.
     pub fn skip_empty_lines(&mut self)
         ensures rest { self.new ≡ behind_empty_lines self.old }
         ensures forward { length self.new ≤ length self.old }

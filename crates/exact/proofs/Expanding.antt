@@ -11,7 +11,7 @@ use lib.Seq.{take_all, take_at, length-take-le, get_or-append-add}
 use Rattle.std.specs.List.{sum_by}
 use Rattle.std.proofs.lemmas.List.Sums.{sum_by-cons, sum_by_more}
 use Rattle.functions.specs.Words.{total, EachWithin}
-use Rattle.functions.proofs.Cases.{lt_or_ge}
+use Rattle.std.proofs.lemmas.Bool.{cases_lt}
 use Rattle.functions.proofs.Totals.{total_none, total_cons, total_first}
 use Rattle.jobs.specs.Packing.{copies}
 use Rattle.exact.specs.Exact.{most_copies}
@@ -23,7 +23,7 @@ unfolding total
 total_is_sum [] = refl
 total_is_sum (x ∷ xs) = ap (λ (rest : ℕ). x + rest) (total_is_sum xs) ∙ sym (sum_by-cons (λ n. n) x xs)
 
-pub total_at : (xs : List ℕ) (i : ℕ) → i < length xs → total (take (i + 1) xs) ≡ total (take i xs) + get_or xs i 0
+total_at : (xs : List ℕ) (i : ℕ) → i < length xs → total (take (i + 1) xs) ≡ total (take i xs) + get_or xs i 0
 total_at xs i l = rw (total_is_sum (take (i + 1) xs), total_is_sum (take i xs)) (sum_by_more (λ n. n) xs i 0 l)
 
 pub copies_count : (counts sizes : List ℕ) → length counts ≡ length sizes → length (copies counts sizes) ≡ total counts
@@ -38,7 +38,7 @@ pub copies_within : (c : ℕ) (counts sizes : List ℕ) → EachWithin c sizes �
 unfolding copies
 copies_within c [] sizes h i l = absurd (omega arith)
 copies_within c (n ∷ counts) [] h i l = absurd (omega arith)
-copies_within c (n ∷ counts) (x ∷ sizes) h i l = go (lt_or_ge i n) (copies_within c counts sizes (λ j m. h (suc j) (omega arith)) (i - n))
+copies_within c (n ∷ counts) (x ∷ sizes) h i l = go (cases_lt i n) (copies_within c counts sizes (λ j m. h (suc j) (omega arith)) (i - n))
   where
     go : (i < n) ⊎ (n ≤ i) → (i - n < length (copies counts sizes) → get_or (copies counts sizes) (i - n) 0 ≤ c) → get_or (replicate n x ++ copies counts sizes) i 0 ≤ c
     go (inl first) rest = rw (get_or-append (replicate n x) (copies counts sizes) 0 i (omega (arith, length-replicate n x)), get_or-replicate n i x 0 first) (h 0 (omega arith))

@@ -10,11 +10,12 @@ use native.Mathlib.Omega.{arith}
 use borrow.Author.Tests.{eqb-true, eq-eqb, ne_eqb}
 use lib.Dec.{eqb}
 use lib.ListN.{length, get_or, replicate, length-map, length-append, length-replicate}
+use Rattle.std.proofs.lemmas.Bool.{false_from_ne_true, or_cases}
 use Rattle.functions.specs.Words.{total}
 use Rattle.functions.proofs.Summed.{total_most}
 use Rattle.functions.proofs.Totals.{total_repeated}
 use Rattle.jobs.specs.Packing.{load, Fits, member, distinct, bins_used}
-use Rattle.jobs.proofs.Packings.{either, Covers, covered, distinct_covers}
+use Rattle.jobs.proofs.Packings.{Covers, covered, distinct_covers}
 use Rattle.exact.specs.Renumber.{used_from, place_of, renumbered}
 use Rattle.exact.specs.Rows.{RenumberRows}
 use Rattle.exact.specs.Search.{Grows}
@@ -34,13 +35,6 @@ unused b (x ∷ xs) (a ∷ bins) e = go (eqb a b) refl e (unused b xs bins)
     go true is h rest = absurd (false≢true (sym h))
     go false is h rest = omega (arith, rest h)
 
-pub no_member : (b : ℕ) (bins : List ℕ) → (member b bins ≡ true → ⊥) → member b bins ≡ false
-no_member b bins out = go (member b bins) refl
-  where
-    go : (test : Bool) → member b bins ≡ test → member b bins ≡ false
-    go true is = absurd (out is)
-    go false is = is
-
 distinct_of : (b : ℕ) (bins : List ℕ) → member b (distinct bins) ≡ true → member b bins ≡ true
 unfolding member distinct
 distinct_of b [] e = e
@@ -48,7 +42,7 @@ distinct_of b (a ∷ bins) e = go (member a bins) e (distinct_of b bins)
   where
     go : (test : Bool) → member b (cond test (distinct bins) (a ∷ distinct bins)) ≡ true → (member b (distinct bins) ≡ true → member b bins ≡ true) → eqb a b || member b bins ≡ true
     go true h rest = rw (rest h) (or-true (eqb a b))
-    go false h rest = ⊎_elim (λ same. rw same) (λ later. rw (rest later) (or-true (eqb a b))) (either (eqb a b) (member b (distinct bins)) h)
+    go false h rest = ⊎_elim (λ same. rw same) (λ later. rw (rest later) (or-true (eqb a b))) (or_cases (eqb a b) (member b (distinct bins)) h)
 
 -- the distinct bins of a list, each with one thing in it: no bin has two
 one_in_each : (b : ℕ) (bins : List ℕ) → load b (replicate (length (distinct bins)) 1) (distinct bins) ≤ 1
@@ -59,7 +53,7 @@ one_in_each b (a ∷ bins) = go (member a bins) refl (one_in_each b bins)
     alone : (test : Bool) → eqb a b ≡ test → member a bins ≡ false → load b (replicate (length (distinct bins)) 1) (distinct bins) ≤ 1 → cond test 1 0 + load b (replicate (length (distinct bins)) 1) (distinct bins) ≤ 1
     alone true is out rest =
         let gone : member b bins ≡ false = rw (eqb-true a b is) at out in
-        omega (arith, unused b (replicate (length (distinct bins)) 1) (distinct bins) (no_member b (distinct bins) (λ e. false≢true (sym gone ∙ distinct_of b bins e))))
+        omega (arith, unused b (replicate (length (distinct bins)) 1) (distinct bins) (false_from_ne_true (member b (distinct bins)) (λ e. false≢true (sym gone ∙ distinct_of b bins e))))
     alone false is out rest = omega arith
 
     go : (test : Bool) → member a bins ≡ test → load b (replicate (length (distinct bins)) 1) (distinct bins) ≤ 1 → load b (replicate (length (cond test (distinct bins) (a ∷ distinct bins))) 1) (cond test (distinct bins) (a ∷ distinct bins)) ≤ 1
@@ -80,7 +74,7 @@ member_renamed : (f : ℕ → ℕ) (b : ℕ) (ws : List ℕ) → member b ws ≡
 unfolding member
 member_renamed f b [] e = absurd (false≢true e)
 member_renamed f b (w ∷ ws) e =
-    ⊎_elim (λ same. rw (eq-eqb (f w) (f b) (ap f (eqb-true w b same)))) (λ later. rw (member_renamed f b ws later) (or-true (eqb (f w) (f b)))) (either (eqb w b) (member b ws) e)
+    ⊎_elim (λ same. rw (eq-eqb (f w) (f b) (ap f (eqb-true w b same)))) (λ later. rw (member_renamed f b ws later) (or-true (eqb (f w) (f b)))) (or_cases (eqb w b) (member b ws) e)
 
 covers_renamed : (f : ℕ → ℕ) (ws bins : List ℕ) → Covers ws bins → Covers (map f ws) (map f bins)
 unfolding Covers member
@@ -88,7 +82,7 @@ covers_renamed f ws [] h b e = absurd (false≢true e)
 covers_renamed f ws (a ∷ bins) h b e =
     let here = member_renamed f a ws (h a (rw (eq-eqb a a refl))) in
     let rest = covers_renamed f ws bins (λ w m. h w (rw m (or-true (eqb a w)))) b in
-    ⊎_elim (λ same. rw (eqb-true (f a) b same) at here) rest (either (eqb (f a) b) (member b (map f bins)) e)
+    ⊎_elim (λ same. rw (eqb-true (f a) b same) at here) rest (or_cases (eqb (f a) b) (member b (map f bins)) e)
 
 -- new names are not more than the old ones
 renamed_uses_most : (f : ℕ → ℕ) (bins : List ℕ) → bins_used (map f bins) ≤ bins_used bins
@@ -153,7 +147,7 @@ unfolding used_from Covers member
 used_covers seen [] b e = absurd (false≢true e)
 used_covers seen (a ∷ bins) b e =
     let here = seen_stays a (with_bin seen a) bins (member_self a seen) in
-    ⊎_elim (λ same. ap (λ (n : ℕ). member n (used_from (with_bin seen a) bins)) (sym (eqb-true a b same)) ∙ here) (used_covers (with_bin seen a) bins b) (either (eqb a b) (member b bins) e)
+    ⊎_elim (λ same. ap (λ (n : ℕ). member n (used_from (with_bin seen a) bins)) (sym (eqb-true a b same)) ∙ here) (used_covers (with_bin seen a) bins b) (or_cases (eqb a b) (member b bins) e)
 
 -- it has no others
 covers_with : (ws seen : List ℕ) (b : ℕ) → Covers ws seen → member b ws ≡ true → Covers ws (with_bin seen b)
@@ -162,7 +156,7 @@ covers_with ws seen b h there a e = go (member b seen) e
   where
     go : (test : Bool) → member a (cond test seen (seen ++ (b ∷ []))) ≡ true → member a ws ≡ true
     go true m = h a m
-    go false m = ⊎_elim (h a) (λ same. rw (eqb-true b a same) at there) (either (member a seen) (eqb b a) (rw (member_append a b seen) at m))
+    go false m = ⊎_elim (h a) (λ same. rw (eqb-true b a same) at there) (or_cases (member a seen) (eqb b a) (rw (member_append a b seen) at m))
 
 covers_used : (ws seen bins : List ℕ) → Covers ws seen → Covers ws bins → Covers ws (used_from seen bins)
 unfolding used_from Covers member

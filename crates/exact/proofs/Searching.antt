@@ -10,9 +10,9 @@ use borrow.Author.Count.{below_more}
 use borrow.Author.Tests.{eqb-true, eqb-false, eq-eqb}
 use borrow.Rule.Slice.PartMut.{put_mid, put_same}
 use lib.Dec.{eqb}
-use lib.ListN.{length, get_or, take, drop, set, length-take, length-drop, drop_of_length-le}
+use lib.ListN.{length, get_or, take, drop, set, drop_of_length-le}
 use lib.Seq.{take_all, set-set, set-get_or, get_or-set_same, get_or-set_other}
-use Rattle.functions.proofs.Cases.{lt_or_ge}
+use Rattle.std.proofs.lemmas.Bool.{cases_lt}
 use Rattle.jobs.specs.Packing.{load}
 use Rattle.exact.specs.Search.{Grows, Seek, Placed, Improved, NoneBelow, NoneIn, Searched, TriedIn}
 
@@ -23,12 +23,9 @@ others xs = take (length xs - 1) (drop 1 xs)
 others_are : (x : ℕ) (xs : List ℕ) → others (x ∷ xs) ≡ xs
 others_are x xs = take_all (suc (length xs) - 1) xs (omega arith)
 
-others_count : (xs : List ℕ) → length (others xs) ≡ length xs - 1
-others_count xs = omega (arith, length-take (length xs - 1) (drop 1 xs), length-drop 1 xs)
-
--- the rooms with the first size put into bin b
-abbrev pub taken : List ℕ → List ℕ → ℕ → List ℕ
-taken sizes rooms b = set rooms b (get_or rooms b 0 - get_or sizes 0 0)
+-- the rooms with a size put into bin b
+abbrev pub taken : ℕ → List ℕ → ℕ → List ℕ
+taken x rooms b = set rooms b (get_or rooms b 0 - x)
 
 -- the room is given back
 pub given_back : (rooms : List ℕ) (b v : ℕ) → set (set rooms b v) b (get_or rooms b 0) ≡ rooms
@@ -80,7 +77,7 @@ improved_again sizes best used rooms windows m rooms₁ windows₁ r rooms₂ wi
     record {
       rooms_stay = two.rooms_stay ∙ one.rooms_stay;
       no_worse = omega (arith, two.no_worse, one.no_worse);
-      if_better = λ less. go less (lt_or_ge r m) (lt_or_ge m best);
+      if_better = λ less. go less (cases_lt r m) (cases_lt m best);
       if_not = λ same. two.if_not (omega (arith, two.no_worse, one.no_worse)) ∙ one.if_not (omega (arith, two.no_worse, one.no_worse));
     }
   where
@@ -101,9 +98,9 @@ improved_again sizes best used rooms windows m rooms₁ windows₁ r rooms₂ wi
         rw (two.if_not is, is) (one.if_better (omega arith))
 
 -- nothing to place
-pub none_left : (sizes : List ℕ) (least best used : ℕ) (rooms windows : List ℕ) → length sizes ≡ 0 → used < best → Searched sizes least best used rooms windows used rooms windows
+pub none_left : (least best used : ℕ) (rooms windows : List ℕ) → used < best → Searched [] least best used rooms windows used rooms windows
 unfolding Grows load
-none_left [] least best used rooms windows e l =
+none_left least best used rooms windows l =
     record {
       improved =
           record {
@@ -114,34 +111,30 @@ none_left [] least best used rooms windows e l =
           };
       none_below = inr (λ k bins more less g r. omega arith);
     }
-none_left (x ∷ sizes) least best used rooms windows e l = absurd (omega arith)
 
 -- the first size in bin b: what is left of it
-module _ (used : ℕ) (rooms : List ℕ) (b : ℕ) where
+module _ (x : ℕ) (sizes : List ℕ) (used : ℕ) (rooms : List ℕ) (b : ℕ) where
   -- it is larger than the room
-  none_too_large : (sizes : List ℕ) (r : ℕ) → 0 < length sizes → get_or rooms b 0 < get_or sizes 0 0 → NoneIn sizes used rooms r b
-  none_too_large [] r some less k bins l m g h = absurd (omega arith)
-  none_too_large (x ∷ sizes) r some less k bins l m g h = omega (arith, h.within b, load_same x b sizes bins)
+  pub too_large : (least best : ℕ) (windows : List ℕ) → get_or rooms b 0 < x → TriedIn (x ∷ sizes) least best used b rooms windows best rooms windows
+  too_large least best windows less =
+      record {
+        improved = unchanged (x ∷ sizes) best used rooms windows;
+        none_in = inr (λ k bins l m g h. omega (arith, h.within b, load_same x b sizes bins));
+      }
 
-  pub too_large : (sizes : List ℕ) (least best : ℕ) (windows : List ℕ) → 0 < length sizes → get_or rooms b 0 < get_or sizes 0 0 → TriedIn sizes least best used b rooms windows best rooms windows
-  too_large sizes least best windows some less = record { improved = unchanged sizes best used rooms windows; none_in = inr (none_too_large sizes best some less) }
-
-  module _ (there : b < length rooms) where
+  module _ (there : b < length rooms) (enough : x ≤ get_or rooms b 0) where
     -- with it in bin b the others have no packing
-    not_placed : (sizes : List ℕ) (r : ℕ) → 0 < length sizes → get_or sizes 0 0 ≤ get_or rooms b 0 → NoneBelow (others sizes) (max used (suc b)) (taken sizes rooms b) r → NoneIn sizes used rooms r b
+    not_placed : (r : ℕ) → NoneBelow sizes (max used (suc b)) (taken x rooms b) r → NoneIn (x ∷ sizes) used rooms r b
     unfolding Grows
-    not_placed [] r some enough none k bins l m g h = absurd (omega arith)
-    not_placed (x ∷ sizes) r some enough none k bins l m g h =
-        none k bins (omega (arith, g.1)) m g.2
-        (rw (others_are x sizes) (record { one_each = omega (arith, h.one_each); within = loads_left rooms b there x sizes enough bins h.within }))
+    not_placed r none k bins l m g h =
+        none k bins (omega (arith, g.1)) m g.2 (record { one_each = omega (arith, h.one_each); within = loads_left rooms b there x sizes enough bins h.within })
 
     -- or they have one
-    first_placed : (sizes windows : List ℕ) (k : ℕ) (placed : List ℕ) → 0 < length sizes → length sizes ≤ length windows → b ≤ used → get_or sizes 0 0 ≤ get_or rooms b 0 → Placed (others sizes) (max used (suc b)) (taken sizes rooms b) (others windows) k placed → Placed sizes used rooms windows k (set (put_mid 1 (length windows - 1) windows placed) 0 b)
+    first_placed : (windows : List ℕ) (k : ℕ) (placed : List ℕ) → suc (length sizes) ≤ length windows → b ≤ used → Placed sizes (max used (suc b)) (taken x rooms b) (others windows) k placed → Placed (x ∷ sizes) used rooms windows k (set (put_mid 1 (length windows - 1) windows placed) 0 b)
     unfolding Grows
-    first_placed [] windows k placed some room l enough p = absurd (omega arith)
-    first_placed (x ∷ sizes) [] k placed some room l enough p = absurd (omega arith)
-    first_placed (x ∷ sizes) (w ∷ windows) k placed some room l enough p =
-        let found : Placed sizes (max used (suc b)) (taken (x ∷ sizes) rooms b) windows k placed = rw (others_are x sizes, others_are w windows) at p in
+    first_placed [] k placed room l p = absurd (omega arith)
+    first_placed (w ∷ windows) k placed room l p =
+        let found : Placed sizes (max used (suc b)) (taken x rooms b) windows k placed = rw (others_are w windows) at p in
         rw (written b w windows placed)
         (record {
           all_in_use = omega (arith, found.all_in_use);
@@ -151,19 +144,19 @@ module _ (used : ℕ) (rooms : List ℕ) (b : ℕ) where
         })
 
 -- the search of the others: what it starts from
-module _ (sizes : List ℕ) (used : ℕ) (rooms windows : List ℕ) (seek : Seek sizes used rooms windows) (some : 0 < length sizes) (b : ℕ) (in_use : b ≤ used) where
+module _ (x : ℕ) (sizes : List ℕ) (used : ℕ) (rooms windows : List ℕ) (seek : Seek (x ∷ sizes) used rooms windows) (b : ℕ) (in_use : b ≤ used) where
   pub bin_there : b < length rooms
   bin_there = omega (arith, seek.few, seek.ten_rooms)
 
   -- and how it ends
-  module _ (least best opened : ℕ) (opened-is : opened ≡ max used (suc b)) (enough : get_or sizes 0 0 ≤ get_or rooms b 0) (r : ℕ) (rooms' windows' : List ℕ) (searched : Searched (others sizes) least best opened (taken sizes rooms b) (others windows) r rooms' windows') where
+  module _ (least best opened : ℕ) (opened-is : opened ≡ max used (suc b)) (enough : x ≤ get_or rooms b 0) (r : ℕ) (rooms' windows' : List ℕ) (searched : Searched sizes least best opened (taken x rooms b) (others windows) r rooms' windows') where
     rooms_back : set rooms' b (get_or rooms b 0) ≡ rooms
-    rooms_back = ap (λ (l : List ℕ). set l b (get_or rooms b 0)) searched.improved.rooms_stay ∙ given_back rooms b (get_or rooms b 0 - get_or sizes 0 0)
+    rooms_back = ap (λ (l : List ℕ). set l b (get_or rooms b 0)) searched.improved.rooms_stay ∙ given_back rooms b (get_or rooms b 0 - x)
 
-    none : (r ≤ least) ⊎ NoneIn sizes used rooms r b
-    none = ⊎_elim (λ few. inl few) (λ below. inr (not_placed used rooms b bin_there sizes r some enough (rw opened-is at below))) searched.none_below
+    none : (r ≤ least) ⊎ NoneIn (x ∷ sizes) used rooms r b
+    none = ⊎_elim (λ few. inl few) (λ below. inr (not_placed x sizes used rooms b bin_there enough r (rw opened-is at below))) searched.none_below
 
-    pub tried_not_better : best ≤ r → TriedIn sizes least best used b rooms windows best (set rooms' b (get_or rooms b 0)) (put_mid 1 (length windows - 1) windows windows')
+    pub tried_not_better : best ≤ r → TriedIn (x ∷ sizes) least best used b rooms windows best (set rooms' b (get_or rooms b 0)) (put_mid 1 (length windows - 1) windows windows')
     tried_not_better l =
         let same : r ≡ best = omega (arith, searched.improved.no_worse) in
         record {
@@ -177,14 +170,14 @@ module _ (sizes : List ℕ) (used : ℕ) (rooms windows : List ℕ) (seek : Seek
           none_in = rw same at none;
         }
 
-    pub tried_better : r < best → TriedIn sizes least best used b rooms windows r (set rooms' b (get_or rooms b 0)) (set (put_mid 1 (length windows - 1) windows windows') 0 b)
+    pub tried_better : r < best → TriedIn (x ∷ sizes) least best used b rooms windows r (set rooms' b (get_or rooms b 0)) (set (put_mid 1 (length windows - 1) windows windows') 0 b)
     tried_better l =
         record {
           improved =
               record {
                 rooms_stay = rooms_back;
                 no_worse = searched.improved.no_worse;
-                if_better = λ _. first_placed used rooms b bin_there sizes windows r windows' some seek.place_for_each in_use enough (rw opened-is at (searched.improved.if_better l));
+                if_better = λ _. first_placed x sizes used rooms b bin_there enough windows r windows' seek.place_for_each in_use (rw opened-is at (searched.improved.if_better l));
                 if_not = λ same. absurd (omega arith);
               };
           none_in = none;

@@ -1,5 +1,6 @@
 pub mod Renumber
 pub mod Exact
 pub mod Expand
+pub mod Told
 pub mod Search
 pub mod Rows

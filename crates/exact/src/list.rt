@@ -2,6 +2,7 @@
 ghost use Rattle.std.specs.Prelude.{◌≡◌, ◌≤◌, length, IfOk};
 ghost use Rattle.refusals.specs.Number.{number_in};
 ghost use Rattle.functions.specs.Words.{total};
+ghost use Rattle.fields.specs.Grammar.{most_sizes};
 ghost use Rattle.exact.specs.Exact.{most_copies, exact_refusal};
 ghost use Rattle.exact.specs.Expand.{Expanded};
 
@@ -12,16 +13,11 @@ use refusals::Refusal;
 pub(crate) const MOST_COPIES: usize = 10;
 
 // How many copies there are in all.
-#[tactic(auto, using(crate::proofs::Expanding::total_at), unfolding(functions::specs::Words::total))]
-fn count_copies(list: CountedSizes<'_>) -> u64
-    ensures { result ≡ total list.entry.counts.now }
+fn count_copies(counts: &[u16]) -> u64
+    requires { length counts.now ≤ most_sizes }
+    ensures { result ≡ total counts.now }
 {
-    // No `sum` of a chain: over a struct's field the proof does not know that each count fits 16 bits.
-    let mut copies = 0;
-    for count in list.counts {
-        copies += u64::from(*count);
-    }
-    copies
+    counts.iter().map(|count| u64::from(*count)).sum()
 }
 
 // The list at a capacity with a place for each window: refusals 1, those of the list, 24 and 7, in this order.
@@ -36,11 +32,9 @@ pub(crate) fn short<'a>(
     ensures list { IfOk result (λ l. (l.capacity ≡ capacity) × (l.sizes.now ≡ sizes.now)
         × (l.counts.now ≡ counts.now)) }
 {
-    if !functions::capacity_fits(capacity) {
-        return Err(Refusal::Capacity);
-    }
+    functions::accept_capacity(capacity)?;
     let list = lists::counted(capacity, sizes, counts)?;
-    if (MOST_COPIES as u64) < count_copies(list) {
+    if (MOST_COPIES as u64) < count_copies(list.counts) {
         return Err(Refusal::TooManyCopies);
     }
     if places < MOST_COPIES {
@@ -54,6 +48,7 @@ pub(crate) fn expand(list: CountedSizes<'_>, copies: &mut [u64]) -> usize
     requires { (total list.counts.now ≤ most_copies) × (length copies.old ≡ most_copies) }
     ensures { Expanded list.entry.sizes.now list.entry.counts.now result copies.new }
 {
+    // The place that runs with the loop is the answer too: how many copies there are.
     let mut n = 0;
     for (size, count) in list.sizes.iter().zip(list.counts) {
         let end = n + usize::from(*count);

@@ -1,6 +1,6 @@
 // The search for a packing into the fewest windows: copies in list order, each into a window in use or
 // the next one.
-ghost use Rattle.std.specs.Prelude.{◌≡◌, suc, max, ◌≤◌, ◌<◌, length};
+ghost use Rattle.std.specs.Prelude.{◌≡◌, suc, max, ◌≤◌, ◌<◌, ◌∷◌};
 ghost use Rattle.functions.specs.Words.{total};
 ghost use Rattle.functions.specs.Families.{◌up◌};
 ghost use Rattle.exact.specs.Exact.{FewestWritten};
@@ -15,7 +15,8 @@ use crate::list::MOST_COPIES;
 // Of the arguments only `least` never changes, so a struct of them would be made anew at each call: no plainer.
 #[cycle(place_try_window)]
 fn try_window(
-    copies: &[u64],
+    size: u64,
+    others: &[u64],
     least: usize,
     best: usize,
     used: usize,
@@ -23,19 +24,20 @@ fn try_window(
     rooms: &mut [u64; MOST_COPIES],
     windows: &mut [u32],
 ) -> usize
-    requires { Seek copies.now used rooms.old windows.old × (0 < length copies.now) × (b ≤ used)
+    requires { Seek (size ∷ others.now) used rooms.old windows.old × (b ≤ used)
         × (max used (suc b) < best) }
-    ensures { TriedIn copies.now least best used b rooms.old windows.old result
+    ensures { TriedIn (size ∷ others.now) least best used b rooms.old windows.old result
         rooms.new windows.new }
 {
-    let size = copies[0];
     let room = rooms[b];
     if room < size {
         return best;
     }
     rooms[b] = room - size;
+    // Each copy has its place, so the buffer is taken by index: with `split_first_mut` it is tested for a first
+    // place at each call, 7% slower on the hardest lists.
     let fewer = place(
-        &copies[1..],
+        others,
         least,
         best,
         used.max(b + 1),
@@ -53,7 +55,8 @@ fn try_window(
 // The fewest windows so far once the copies were tried in the windows in use, `used` of them, and in new
 // ones, in every way but for names. No new one is opened where as many would be in use as the best so far has,
 // and no packing is looked for where the best so far is into `least`, or into those in use. What is written
-// then is a packing that is better than the best so far, if there is one.
+// then is a packing that is better than the best so far, if there is one. Before one is found, `best` is one
+// more than the copies, which no packing needs.
 #[cycle(place_try_window)]
 fn place(
     copies: &[u64],
@@ -67,13 +70,13 @@ fn place(
     ensures { Searched copies.now least best used rooms.old windows.old result
         rooms.new windows.new }
 {
-    if copies.is_empty() {
+    let Some((&size, others)) = copies.split_first() else {
         return used;
-    }
+    };
     let enough = least.max(used);
     let mut fewest = best;
     for b in 0..used {
-        let fewer = try_window(copies, least, fewest, used, b, rooms, windows);
+        let fewer = try_window(size, others, least, fewest, used, b, rooms, windows);
         if fewer < fewest {
             if fewer <= enough {
                 return fewer;
@@ -84,7 +87,7 @@ fn place(
     if fewest <= used + 1 {
         return fewest;
     }
-    try_window(copies, least, fewest, used, used, rooms, windows)
+    try_window(size, others, least, fewest, used, used, rooms, windows)
 }
 
 // The copies' total, divided by the capacity and rounded up: no packing uses fewer windows.

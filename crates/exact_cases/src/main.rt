@@ -15,6 +15,7 @@ ghost use Rattle.cases.specs.Onward.{PassesSome};
 use decimal::Numbers;
 use exact::ExactAnswer;
 use std::io::{self, Write};
+use std::iter;
 
 // The most bytes of standard input that are read.
 const MOST_BYTES: usize = 262_144;
@@ -44,15 +45,12 @@ impl List<'_> {
 
     // The size of a copy, counted from 0; 0 if there are fewer.
     fn size_of(&self, copy: usize) -> u32 {
-        let mut before = copy;
-        for (size, count) in self.sizes.iter().zip(self.counts) {
-            let count = usize::from(*count);
-            if before < count {
-                return *size;
-            }
-            before -= count;
-        }
-        0
+        self.sizes
+            .iter()
+            .zip(self.counts)
+            .flat_map(|(size, count)| iter::repeat_n(*size, usize::from(*count)))
+            .nth(copy)
+            .unwrap_or(0)
     }
 
     // The total of the copies that are in a window.
@@ -103,14 +101,13 @@ fn write_answer<W: Write>(
     };
     let (windows, behind) = windows.split_at(copies);
     let fits = u8::from(list.fits(windows));
-    write!(out, "{} {} {fits}", answer.number, answer.fewest)?;
-    write!(
+    let (numbers, above) = (different(windows), not_below(windows, answer.fewest));
+    let sum = buffers::checksum(behind);
+    writeln!(
         out,
-        " {} {}",
-        different(windows),
-        not_below(windows, answer.fewest)
-    )?;
-    writeln!(out, " {}", buffers::checksum(behind))
+        "{} {} {fits} {numbers} {above} {sum}",
+        answer.number, answer.fewest
+    )
 }
 
 fn run_case<W: Write>(out: &mut W, numbers: &mut Numbers<'_>) -> io::Result<()>
@@ -123,7 +120,7 @@ fn run_case<W: Write>(out: &mut W, numbers: &mut Numbers<'_>) -> io::Result<()>
     let counts = runs::put_list(numbers, &mut counts, buffers::fill_halves);
     let [w, first, step] = numbers.next_numbers::<3>();
     let mut windows = [0u32; MOST_PLACES];
-    let windows = &mut windows[..buffers::at_most(w, MOST_PLACES)];
+    let windows = buffers::front(&mut windows, w);
     buffers::fill(windows, buffers::low_bits(first), buffers::low_bits(step));
     let answer = exact::windowfloor_exact(capacity, sizes, counts, windows);
     let list = List {

@@ -1,4 +1,5 @@
 -- Fields one behind the other: what the parts by tag gain from one more field, and which tags may follow.
+use Rattle.std.proofs.lemmas.Bool.{cases_lt}
 use mathlib.Core.Path.{◌≡◌, refl, ap, ◌∙◌}
 use mathlib.Core.Bool.{Bool, true, false, cond, not, ◌&&◌, ◌||◌, or-true, and-eq-true_iff}
 use mathlib.Core.List.{List, [], ◌∷◌, ◌++◌, map, map-append}
@@ -7,12 +8,13 @@ use Prim.Native.Nat.{ℕ, suc, ◌≤◌, ◌<◌}
 use native.Mathlib.Omega.{arith}
 use borrow.Author.Tests.{eqb-true, ltb-true, eq-eqb, ne_eqb, not-false}
 use lib.Dec.{ltb, eqb}
-use Rattle.functions.proofs.Cases.{lt_or_ge, not_refused}
+use Rattle.functions.proofs.Cases.{not_refused}
 use Rattle.std.specs.Prelude.{None, Some}
 use Rattle.fields.specs.Bytes.{field_tag, field_length, field_within, header_of}
 use Rattle.fields.specs.Parts.{Field, value_of, blocks_there, is_step, step_of, chosen, job_steps, row_of, is_row, job_rows, last_tag_from, last_tag}
 use Rattle.fields.specs.Grammar.{most_steps, floor_kind, rows_kind, step_follows, row_follows, counts_follow, blocks_follow, may_follow, length_right}
 use Rattle.fields.specs.Reading.{header_refusal}
+use Rattle.fields.specs.declared.Header.{Header}
 
 -- no field has the tag t
 pub Absent : ℕ → List Field → Type 0
@@ -190,7 +192,7 @@ module _ (last steps tag : ℕ) where
   -- behind tag 1, by the kind
   behind_first : (kind : ℕ) (test : Bool) → (last < 1 → ⊥) → cond test (row_follows last tag || step_follows steps tag) (cond (eqb last 1) (eqb tag 2) (cond (eqb last 2) (eqb tag 3) (counts_follow kind last tag || blocks_follow kind last tag || step_follows steps tag))) ≡ true → Followed last steps tag
   behind_first kind true some e = or_else (row_follows last tag) (step_follows steps tag) row_tag step_tag e
-  behind_first kind false some e = go (lt_or_ge last 2) (lt_or_ge last 3)
+  behind_first kind false some e = go (cases_lt last 2) (cases_lt last 3)
     where
       go : (last < 2) ⊎ (2 ≤ last) → (last < 3) ⊎ (3 ≤ last) → Followed last steps tag
       go (inl l) d = next_tag (omega (arith, eqb-true tag 2 (rw (eq-eqb last 1 (omega arith)) at e))) (omega arith)
@@ -207,7 +209,20 @@ module _ (last steps tag : ℕ) where
       ⊎_elim
       (λ l. next_tag (omega (arith, eqb-true tag 1 (rw (eq-eqb last 0 (omega arith)) at e))) (omega arith))
       (λ m. behind_first kind (eqb kind rows_kind) (λ l. omega arith) (rw (ne_eqb last 0 (omega arith)) at e))
-      (lt_or_ge last 1)
+      (cases_lt last 1)
+
+-- no other number follows, so that a header with it is refused by 14
+module _ (h : Header) (unknown : (1 ≤ h.tag) × (h.tag ≤ 8) → ⊥) where
+  never : (kind last steps : ℕ) → may_follow kind last steps h.tag ≡ false
+  never kind last steps = go (may_follow kind last steps h.tag) refl
+    where
+      go : (may : Bool) → may_follow kind last steps h.tag ≡ may → may ≡ false
+      go true e = absurd (unknown (follows last steps h.tag kind e).known)
+      go false e = refl
+
+  pub unknown_refused : (kind last steps sizes : ℕ) → header_refusal (Some h) kind last steps sizes ≡ 14
+  unfolding header_refusal
+  unknown_refused kind last steps sizes = rw (never kind last steps) refl
 
 -- tags 1, 2 and 3 that are behind the last one have not come yet, no counts before a tag over 3, and no blocks before a tag over 3 but counts
 pub record Ordered (fields : List Field) : Type 0 where
@@ -225,7 +240,7 @@ module _ (fields : List Field) (f : Field) (kind steps : ℕ) (o : Ordered field
 
   pub follows_new : (f.tag < 4) ⊎ (7 ≤ f.tag) → Absent f.tag fields
   follows_new (inl l) = o.absent f.tag (omega (arith, followed.low l)) l
-  follows_new (inr late) = ⊎_elim (λ l. counts (omega arith)) (λ m. blocks (omega (arith, followed.known))) (lt_or_ge f.tag 8)
+  follows_new (inr late) = ⊎_elim (λ l. counts (omega arith)) (λ m. blocks (omega (arith, followed.known))) (cases_lt f.tag 8)
     where
       counts : f.tag ≡ 7 → Absent f.tag fields
       counts seven = rw seven (o.uncounted (omega (arith, followed.counts seven)))

@@ -12,6 +12,8 @@ use lib.ListN.{length, take, drop, length-drop}
 use lib.Seq.{take_all, drop-length, length-take-le}
 use Rattle.fields.specs.Bytes.{header_bytes, field_tag, field_length, field_within, header_of, field_value, field_rest}
 use Rattle.fields.specs.declared.Header.{Header}
+use Rattle.fields.specs.declared.tag.Tag.{Tag}
+use Rattle.fields.specs.Tags.{tag_number}
 
 module _ (rest : List ℕ) where
   -- a part from a place to the end is what is left there
@@ -36,7 +38,7 @@ module _ (rest : List ℕ) where
           absurd (omega arith)
 
   -- a field that is accepted has the first byte as its tag
-  pub tag_read : (header : Option Header) (tag : ℕ) → header ≡ header_of rest → TagOf header (Ok tag) → tag ≡ field_tag rest
+  pub tag_read : (header : Option Header) (tag : Tag) → header ≡ header_of rest → TagOf header (Ok tag) → tag_number tag ≡ field_tag rest
   tag_read header tag is of = of.2 ∙ (header_there of.0 (sym is ∙ of.1)).1
 
   pub header_missing : header_of rest ≡ None → field_within rest ≡ false
@@ -86,6 +88,10 @@ module _ (rest : List ℕ) where
         ap (λ (k : ℕ). take k (drop header_bytes rest)) count ∙ sym (value_is there.0),
         to_the_end (header_bytes + h.length) inside ∙ ap (λ (k : ℕ). drop (header_bytes + k) rest) there.2 ∙ sym (rest_is there.0),
       )
+
+  -- the value of a header that was read ends within the rest
+  pub value_inside : {header : Option Header} {h : Header} → header ≡ header_of rest → header ≡ Some h → header_bytes + h.length ≤ length rest
+  value_inside read is = (header_cuts _ (sym read ∙ is)).0
 
   -- nothing is there at the end
   pub header_ends : header_of rest ≡ None → (take (length rest - length rest) (drop (length rest) rest) ≡ field_value rest) × (take (length rest - length rest) (drop (length rest) rest) ≡ field_rest rest)

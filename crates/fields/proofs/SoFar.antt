@@ -46,7 +46,7 @@ module _ (job : List ℕ) (parts : JobParts) (last : ℕ) (rest : List ℕ) (s :
   number_is : number ≡ field_refusal s.done rest
   unfolding field_refusal
   number_is =
-      let count = sym (steps_count parts.steps s.parts_are.steps_within) ∙ ap length s.parts_are.steps_are in
+      let count = sym (steps_count parts.steps) ∙ ap length s.parts_are.steps_are in
       rw (s.parts_are.kind_is, s.last_is, count, sizes_count s.done parts s.parts_are)
 
   module _ (some : length rest ≡ 0 → ⊥) where
@@ -86,9 +86,7 @@ module _ (job : List ℕ) (parts : JobParts) (last : ℕ) (rest : List ℕ) (s :
       pub fillable : length job < 2 ^ 64 → Fillable parts tag (length (field_value rest))
       fillable short =
           record {
-            known = followed.known;
             right_length = right;
-            places = s.parts_are.steps_within.places;
             room = followed.step;
             countable = omega (arith, ahead, rows_within job s.done rest s.stand, s.parts_are.rows_count, s.parts_are.coefficients_count);
           }
@@ -151,11 +149,3 @@ module _ (job : List ℕ) (parts : JobParts) (last : ℕ) (rest : List ℕ) (s :
 pub job_unread : (job : List ℕ) (r : Result JobParts Refusal) (refusal : Refusal) → IsErrAnd r (λ e. e ≡ refusal) → job_fields job ≡ refused (number_of refusal) → JobReading job r
 job_unread job (Ok parts) refusal is e = absurd is
 job_unread job (Err told) refusal is e = e ∙ ap (λ (n : Refusal). refused (number_of n)) (sym is)
-
--- a job that is complete is read without a refusal
-pub complete_read : (job : List ℕ) (r : Result JobParts Refusal) (fields : List Field) → JobReading job r → job_fields job ≡ complete fields → (parts : JobParts) × (r ≡ Ok parts)
-complete_read job (Ok parts) fields reading whole = (parts, refl)
-complete_read job (Err refusal) fields reading whole =
-    let stopped = sym reading ∙ whole in
-    let never : ◌≡◌ {A = ℕ} 0 1 = cc in
-    absurd (omega arith)

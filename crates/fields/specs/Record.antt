@@ -1,40 +1,36 @@
 -- What the record of a job that was read stands for: the parts of the job.
-use Rattle.std.specs.Prelude.{◌≡◌, true, false, cond, Option, None, Some, Result, Ok, Err, List, [], ◌∷◌, ◌++◌, map, ◌⊎◌, ℕ, suc, ◌+◌, ◌*◌, ◌/◌, ◌%◌, ◌^◌, ◌≤◌, ◌<◌, eqb, length, get_or, take, drop}
+use Rattle.std.specs.Prelude.{◌≡◌, true, false, Option, None, Some, Result, Ok, Err, List, [], ◌∷◌, ◌++◌, map, ◌⊎◌, ℕ, suc, ◌+◌, ◌*◌, ◌/◌, ◌%◌, ◌^◌, ◌≤◌, ◌<◌, length, get_or, take, drop}
 use denote.Bor.{Bor}
 use Rattle.refusals.specs.declared.Refusal.{Refusal}
 use Rattle.refusals.specs.Number.{number_of}
-use Rattle.tables.specs.Check.{most_entries}
 use Rattle.fields.specs.Bytes.{words, field_within, field_rest}
 use Rattle.fields.specs.Parts.{Field, field_of, value_of, Step, on_family, on_table, Row, row_of, is_row, job_kind, job_capacity, job_sizes, blocks_there, job_steps, job_rows, coefficient_count}
 use Rattle.fields.specs.Grammar.{most_sizes, most_steps, length_right}
 use Rattle.fields.specs.Reading.{first_field, refused, complete, job_fields, fields_of}
+use Rattle.fields.specs.declared.tag.Tag.{Tag}
+use Rattle.fields.specs.Tags.{tag_number}
 use Rattle.fields.specs.declared.Header.{Header}
-use Rattle.fields.specs.declared.JobStep.{JobStep}
-use Rattle.fields.specs.declared.JobSteps.{JobSteps}
+use Rattle.fields.specs.declared.steps.StepFunction.{StepFunction}
+use Rattle.fields.specs.declared.steps.StepFunction.TheVariants.{Family, Table}
+use Rattle.fields.specs.declared.steps.JobStep.{JobStep}
+use Rattle.fields.specs.declared.steps.JobSteps.{JobSteps}
 use Rattle.fields.specs.declared.JobParts.{JobParts}
 use Rattle.fields.specs.declared.JobRow.{JobRow}
 
 -- a field that is accepted has a header, with its tag
-abbrev pub TagOf : Option Header → Result ℕ Refusal → Type 0
-TagOf header (Ok tag) = (h : Header) × (header ≡ Some h) × (tag ≡ h.tag)
+abbrev pub TagOf : Option Header → Result Tag Refusal → Type 0
+TagOf header (Ok tag) = (h : Header) × (header ≡ Some h) × (tag_number tag ≡ h.tag)
 TagOf header (Err refusal) = Unit {0}
 
-unfoldable pub step_in : JobStep → Step
-step_in s = cond (eqb s.tag 4) (on_family s.family s.p s.q) (on_table (words s.entries.now))
+unfoldable pub function_in : StepFunction → Step
+function_in (Family family p q) = on_family family p q
+function_in (Table entries) = on_table (words entries.now)
+
+abbrev pub step_in : JobStep → Step
+step_in s = function_in s.function
 
 unfoldable pub steps_in : JobSteps → List Step
 steps_in steps = map step_in (take steps.count steps.items)
-
--- a table's entries are whole, and its length is a table's
-pub record StepWithin (s : JobStep) : Type 0 where
-  pub whole : length s.entries.now % 4 ≡ 0
-  pub least : (s.tag ≡ 4 → ⊥) → 8 ≤ length s.entries.now
-  pub most : length s.entries.now ≤ 4 * most_entries
-
-pub record StepsWithin (steps : JobSteps) : Type 0 where
-  pub places : length steps.items ≡ most_steps
-  pub most : steps.count ≤ most_steps
-  pub each : (i : ℕ) (none : JobStep) → i < steps.count → StepWithin (get_or steps.items i none)
 
 -- the bytes of the numbers of blocks, where there is a field of them
 abbrev pub BlocksOf : List Field → Option (Bor (List ℕ)) → Type 0
@@ -52,7 +48,6 @@ pub record PartsOf (fields : List Field) (parts : JobParts) : Type 0 where
   pub none_or_each : (length parts.counts.now ≡ 0) ⊎ (2 * length parts.counts.now ≡ length parts.sizes.now)
   pub blocks_are : BlocksOf fields parts.blocks
   pub steps_are : steps_in parts.steps ≡ job_steps fields
-  pub steps_within : StepsWithin parts.steps
   pub rows_count : parts.rows ≡ length (job_rows fields)
   pub coefficients_count : parts.coefficients ≡ coefficient_count (job_rows fields)
 
@@ -65,9 +60,7 @@ pub record NextField (fields : List Field) (tag : ℕ) (value : List ℕ) : Type
 
 -- what filling the record with a field asks: a tag with a right length, a place where it is a step, and counts that do not wrap
 pub record Fillable (parts : JobParts) (tag n : ℕ) : Type 0 where
-  pub known : (1 ≤ tag) × (tag ≤ 8)
   pub right_length : length_right (length parts.sizes.now / 4) tag n ≡ true
-  pub places : length parts.steps.items ≡ most_steps
   pub room : (tag ≡ 4) ⊎ (tag ≡ 5) → parts.steps.count < most_steps
   pub countable : parts.rows + parts.coefficients + n < 2 ^ 64
 

@@ -5,11 +5,15 @@ mod grammar;
 mod parts;
 mod reader;
 pub mod rows;
+mod steps;
+mod tag;
 pub mod words;
 
 ghost use Rattle.fields.specs.Record.{JobReading};
 
+use grammar::Place;
 use refusals::Refusal;
+pub use steps::{JobStep, JobSteps, StepFunction};
 
 // The most bytes, sizes (in kind 3 coefficients of all rows), rows, blocks and steps of a job.
 pub const MOST_BYTES: usize = 65_535;
@@ -30,39 +34,24 @@ pub const ROWS_KIND: u8 = 3;
 // The bytes of a header: a tag and a two-byte length.
 const HEADER: usize = 3;
 
-// The header of a field. The tag is a byte and no enum: the grammar's tables have the format's numbers,
-// and an unknown one is refused by 14 like one out of place.
+// The header of a field. The tag is a byte here: an unknown one is refused by 14, behind 13.
 #[derive(Clone, Copy)]
 pub struct Header {
     pub tag: u8,
     pub length: usize,
 }
 
-// A step of a job, a struct as the project's scope names it: by its tag family, p and q of a family step,
-// or the entries of a table.
-#[derive(Clone, Copy)]
-pub struct JobStep<'a> {
-    pub p: u64,
-    pub q: u64,
-    pub entries: &'a [u8],
-    pub tag: u8,
-    pub family: u8,
-}
-
-// The steps of one job, by value as the scope names it: eight places and their number.
-#[derive(Clone, Copy)]
-pub struct JobSteps<'a> {
-    pub items: [JobStep<'a>; MOST_STEPS],
-    pub count: usize,
-}
-
-// The parts of a job: of its rows how many there are, and how many coefficients they have in all. Where
-// it has no tag 7, there are no counts; a tag 8 may give no block.
+// The parts of a job: of its rows how many there are, and how many coefficients they have in all. Lists of
+// numbers are their bytes, of which a value of a field is a part and the definitions speak, and are cut into
+// chunks where they are read.
 #[derive(Clone, Copy)]
 pub struct JobParts<'a> {
     pub capacity: u64,
     pub sizes: &'a [u8],
+    // Empty where there is no tag 7, and where a tag 7 has no bytes. No counts are given in both cases
+    // (`counts_for`), so an `Option` would say the same in two ways.
     pub counts: &'a [u8],
+    // An `Option`, since a tag 8 may give no block and is still there.
     pub blocks: Option<&'a [u8]>,
     pub steps: JobSteps<'a>,
     pub rows: usize,
@@ -79,19 +68,25 @@ pub struct JobRow<'a> {
     pub rest: &'a [u8],
 }
 
-// Reads all fields of a job, one after the other.
+// Reads all fields of a job, one after the other. The loop goes over what is left of the job: an iterator's
+// type, used here alone, would be longer.
 pub fn read_job(job: &[u8]) -> Result<JobParts<'_>, Refusal>
     ensures { JobReading job.now result }
 {
     let mut parts = parts::no_parts();
-    let mut last = 0;
+    let mut last = None;
     let mut rest = job;
     while !rest.is_empty() {
         let header = reader::read_header(rest);
-        let steps = parts.steps.count;
-        let tag = grammar::accept_field(header, parts.kind, last, steps, parts.sizes.len() / 4)?;
+        let place = Place {
+            kind: parts.kind,
+            last,
+            steps: parts.steps.count,
+            sizes: parts.sizes.len() / 4,
+        };
+        let tag = place.accept(header)?;
         parts = parts::with_field(parts, tag, reader::field_value(rest, header));
-        last = tag;
+        last = Some(tag);
         rest = reader::field_rest(rest, header);
     }
     if !grammar::may_end(parts.kind, last) {

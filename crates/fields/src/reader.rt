@@ -2,24 +2,21 @@
 ghost use Rattle.std.specs.Prelude.{◌≡◌};
 ghost use Rattle.fields.specs.Bytes.{header_of, field_value, field_rest};
 
-use crate::{HEADER, Header, words};
+use crate::{HEADER, Header};
 
 // The header of the first field, where header and value are within the rest.
-#[tactic(auto, unfolding(crate::specs::Bytes::header_of, crate::specs::Bytes::field_within, crate::specs::Bytes::field_tag, crate::specs::Bytes::field_length))]
+#[tactic(auto, unfolding(crate::specs::Bytes::header_of, crate::specs::Bytes::field_within, crate::specs::Bytes::field_tag, crate::specs::Bytes::field_length, crate::specs::Bytes::halfword))]
 pub(crate) fn read_header(rest: &[u8]) -> Option<Header>
     ensures { result ≡ header_of rest.now }
 {
-    if rest.len() < HEADER {
+    let [tag, high, low, behind @ ..] = rest else {
+        return None;
+    };
+    let length = usize::from(u16::from_be_bytes([*high, *low]));
+    if behind.len() < length {
         return None;
     }
-    let length = words::halfword_at(rest, 1) as usize;
-    if rest.len() - HEADER < length {
-        return None;
-    }
-    Some(Header {
-        tag: rest[0],
-        length,
-    })
+    Some(Header { tag: *tag, length })
 }
 
 // The value of the first field, as a part of the job; the empty part at the end where header or

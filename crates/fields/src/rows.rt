@@ -2,6 +2,7 @@
 ghost use Rattle.std.specs.Prelude.{◌≡◌};
 ghost use Rattle.fields.specs.Record.{RowHere, RowRead, RowAhead, RowsFound};
 
+use crate::tag::Tag;
 use crate::{JobRow, reader, words};
 
 // The row in the first field of a job's rest.
@@ -18,13 +19,14 @@ fn first_row(rest: &[u8]) -> JobRow<'_>
     }
 }
 
-// The first row of a job's rest, in which fields stand.
+// The first row of a job's rest, in which fields stand. The loop goes over what is left: the contract says
+// what holds for whichever fields stand there, and an iterator's contract would have to say it again.
 pub fn next_row(rest: &[u8]) -> JobRow<'_>
     requires { RowAhead rest.now }
     ensures { RowsFound rest.now result }
 {
     let mut ahead = rest;
-    while ahead[0] != 6 {
+    while ahead[0] != Tag::Row as u8 {
         ahead = reader::field_rest(ahead, reader::read_header(ahead));
     }
     first_row(ahead)

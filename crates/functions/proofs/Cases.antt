@@ -1,20 +1,13 @@
 -- Proofs by cases: two numbers by their order, and tests that did not refuse.
+use Rattle.std.proofs.lemmas.Bool.{cases_lt}
 use mathlib.Core.Path.{◌≡◌, refl}
-use mathlib.Core.Bool.{Bool, true, false, cond, ◌||◌, true≢false}
+use mathlib.Core.Bool.{Bool, true, false, cond}
 use mathlib.Core.Logic.{◌⊎◌, inl, inr, ⊎_elim}
 use Prim.Native.Nat.{ℕ, ◌≤◌, ◌<◌}
 use native.Mathlib.Nat.{eq-zero-or-pos}
-use native.Mathlib.Decide.{dec_lt}
 use native.Mathlib.Omega.{arith}
 use borrow.Author.Tests.{eq-eqb, ne_eqb}
 use lib.Dec.{eqb}
-
-pub lt_or_ge : (a b : ℕ) → (a < b) ⊎ (b ≤ a)
-lt_or_ge a b = go (dec_lt a b)
-  where
-    go : Dec (a < b) → (a < b) ⊎ (b ≤ a)
-    go (yes h) = inl h
-    go (no h) = inr (omega arith)
 
 pub data Order (a b : ℕ) : Type 0 where
   below : a < b → Order a b
@@ -22,7 +15,7 @@ pub data Order (a b : ℕ) : Type 0 where
   above : b < a → Order a b
 
 pub order : (a b : ℕ) → Order a b
-order a b = go (lt_or_ge a b) (lt_or_ge b a)
+order a b = go (cases_lt a b) (cases_lt b a)
   where
     go : (a < b) ⊎ (b ≤ a) → (b < a) ⊎ (a ≤ b) → Order a b
     go (inl h) k = below h
@@ -33,11 +26,6 @@ order a b = go (lt_or_ge a b) (lt_or_ge b a)
 pub not_refused : (test : Bool) (number rest : ℕ) → 0 < number → cond test number rest ≡ 0 → (test ≡ false) × (rest ≡ 0)
 not_refused true number rest l e = absurd (omega arith)
 not_refused false number rest l e = (refl, e)
-
--- neither of two tests holds
-pub neither : (a b : Bool) → a || b ≡ false → (a ≡ false) × (b ≡ false)
-neither true b e = absurd (true≢false e)
-neither false b e = (refl, e)
 
 -- what holds of two numbers holds of the one that a test takes
 pub of_both : (P : ℕ → Type 0) (test : Bool) (a b : ℕ) → P a → P b → P (cond test a b)

@@ -1,5 +1,6 @@
 -- Family 7 is superadditive: Lemma 1 at what it adds for a remainder.
 -- For a remainder a: b = a - r, n = b * q, and t = theta p q r a, which is n up (p - r).
+use Rattle.std.proofs.lemmas.Bool.{cases_lt}
 use mathlib.Core.Path.{◌≡◌, ap, sym, ◌∙◌, refl}
 use mathlib.Core.Logic.{◌⊎◌, inl, inr, ⊎_elim}
 use Prim.Native.Nat.{ℕ, ◌+◌, ◌-◌, ◌*◌, ◌/◌, ◌%◌, ◌≤◌, ◌<◌}
@@ -7,7 +8,6 @@ use native.Mathlib.Nat.{mul-le-mul_right, mul-le-mul_left, le_of_mul-le-mul_righ
 use native.Mathlib.Omega.{arith}
 use borrow.Author.Tests.{le-leb, lt-leb, eq-eqb, ne_eqb}
 use Rattle.functions.specs.Families.{dash_gunluk, dash_gunluk_rest, theta, ◌up◌}
-use Rattle.functions.proofs.Cases.{lt_or_ge}
 use Rattle.functions.proofs.Superadditive.{Superadditive}
 use Rattle.functions.proofs.Quotient.{by_quotient_and_remainder, up_reaches, up_monotone, up_exact, up_whole}
 use Rattle.functions.proofs.Remainder.{theta_of, theta_small, theta_monotone, theta_most, theta_within, theta_beyond}
@@ -51,7 +51,7 @@ module _ (p q r : ℕ) where
       broken : dash_gunluk_rest p q r a ≡ theta p q r a * (p - r) → Part a
 
     pub part : (a : ℕ) → a < p → Part a
-    part a m = ⊎_elim (λ l. ⊎_elim (divided l) (λ n. broken (rest_rounded a l n)) (eq-zero-or-pos (q * (p - a) % (p - r)))) small (lt_or_ge r a)
+    part a m = ⊎_elim (λ l. ⊎_elim (divided l) (λ n. broken (rest_rounded a l n)) (eq-zero-or-pos (q * (p - a) % (p - r)))) small (cases_lt r a)
       where
         small : a ≤ r → Part a
         small l =
@@ -68,7 +68,7 @@ module _ (p q r : ℕ) where
 
     -- the two cases by the test that n is theta gaps
     pub rest_divisible : (a : ℕ) → a < p → (a - r) * q ≡ theta p q r a * (p - r) → dash_gunluk_rest p q r a ≡ (a - r) * q + (a - r)
-    rest_divisible a m e = ⊎_elim (λ l. rest_whole a (theta p q r a) l m e) small (lt_or_ge r a)
+    rest_divisible a m e = ⊎_elim (λ l. rest_whole a (theta p q r a) l m e) small (cases_lt r a)
       where
         small : a ≤ r → dash_gunluk_rest p q r a ≡ (a - r) * q + (a - r)
         small l =
@@ -106,7 +106,7 @@ module _ (p q r : ℕ) where
       q_positive = ⊎_elim (λ e. absurd (omega (arith, ap (λ (n : ℕ). n * r) e))) (λ l. l) (eq-zero-or-pos q)
 
       rest_monotone : (a s : ℕ) → a ≤ s → s < p → dash_gunluk_rest p q r a ≤ dash_gunluk_rest p q r s
-      rest_monotone a s h m = ⊎_elim (λ e. omega (arith, ap (dash_gunluk_rest p q r) e)) (λ l. go l (part a (omega arith)) (part s m) (lt_or_ge r a)) (eq-or-lt_of_le h)
+      rest_monotone a s h m = ⊎_elim (λ e. omega (arith, ap (dash_gunluk_rest p q r) e)) (λ l. go l (part a (omega arith)) (part s m) (cases_lt r a)) (eq-or-lt_of_le h)
         where
           go : a < s → Part a → Part s → (r < a) ⊎ (a ≤ r) → dash_gunluk_rest p q r a ≤ dash_gunluk_rest p q r s
           go l (broken g) ps k = omega (arith, mul-le-mul_right (p - r) (theta_monotone p q r less a s (omega arith)), rest_least s ps)
@@ -117,7 +117,7 @@ module _ (p q r : ℕ) where
           go l (whole e g) (broken gs) (inl k) =
               let more : a - r + 1 ≤ s - r = omega arith in
               let reach : (s - r) * q ≤ theta p q r s * (p - r) = rw (theta_of p q r less s (s - r) refl) (up_reaches (p - r) (omega arith) ((s - r) * q)) in
-              let next : theta p q r a < theta p q r s = ⊎_elim (λ h. h) (λ h. absurd (omega (arith, mul-le-mul_right q more, mul-le-mul_right (p - r) h, q_positive))) (lt_or_ge (theta p q r a) (theta p q r s)) in
+              let next : theta p q r a < theta p q r s = ⊎_elim (λ h. h) (λ h. absurd (omega (arith, mul-le-mul_right q more, mul-le-mul_right (p - r) h, q_positive))) (cases_lt (theta p q r a) (theta p q r s)) in
               omega (arith, mul-le-mul_right (p - r) next)
 
       -- n of a sum, where neither part is small
@@ -162,7 +162,7 @@ module _ (p q r : ℕ) where
             omega (arith, mul-le-mul_right (p - r) within, rest_least s (part s (omega arith)), rest_almost a (part a la))
 
         whole_whole : (a - r) * q ≡ theta p q r a * (p - r) → (b - r) * q ≡ theta p q r b * (p - r) → dash_gunluk_rest p q r a + dash_gunluk_rest p q r b ≤ (q + 1) * (p - r) + dash_gunluk_rest p q r s
-        whole_whole ea eb = ⊎_elim over under (lt_or_ge r s)
+        whole_whole ea eb = ⊎_elim over under (cases_lt r s)
           where
             ga : dash_gunluk_rest p q r a ≡ (a - r) * q + (a - r)
             ga = rest_whole a (theta p q r a) ha la ea

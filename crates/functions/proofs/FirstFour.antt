@@ -1,4 +1,5 @@
 -- Families 1 to 4, or what they mirror, are superadditive.
+use Rattle.std.proofs.lemmas.Bool.{cases_lt}
 use mathlib.Core.Path.{◌≡◌, ap, ◌∙◌, refl}
 use mathlib.Core.Logic.{◌⊎◌, inl, inr, ⊎_elim}
 use Prim.Native.Nat.{ℕ, ◌+◌, ◌-◌, ◌*◌, ◌/◌, ◌%◌, ◌≤◌, ◌<◌}
@@ -6,7 +7,6 @@ use native.Mathlib.Nat.{div-add-mod', eq-zero-or-pos, zero-mod, mul-le-mul}
 use native.Mathlib.Omega.{arith}
 use borrow.Author.Tests.{lt-ltb, le-ltb, eq-eqb, ne_eqb}
 use Rattle.functions.specs.Families.{threshold, rounding, quotient, vanderbeck, ◌up◌}
-use Rattle.functions.proofs.Cases.{lt_or_ge}
 use Rattle.functions.proofs.Superadditive.{Superadditive}
 use Rattle.functions.proofs.Quotient.{Carry, none, one, carry, by_quotient_and_remainder, up_zero, up_sum, up_exact, up_greatest}
 
@@ -27,11 +27,11 @@ module _ (c p : ℕ) where
     -- at p or more the image is at least the size
     threshold_up : (x : ℕ) → p ≤ x → x ≤ c → x ≤ threshold c p x
     threshold_up x h l =
-        ⊎_elim (λ top. omega (arith, threshold_top x top)) (λ mid. omega (arith, threshold_middle x mid h)) (lt_or_ge (c - p) x)
+        ⊎_elim (λ top. omega (arith, threshold_top x top)) (λ mid. omega (arith, threshold_middle x mid h)) (cases_lt (c - p) x)
 
     -- a size below p adds nothing, and the image does not fall
     threshold_small : (x y : ℕ) → x < p → x + y ≤ c → threshold c p x + threshold c p y ≤ threshold c p (x + y)
-    threshold_small x y h l = ⊎_elim low (λ k. ⊎_elim top (middle k) (lt_or_ge (c - p) y)) (lt_or_ge y p)
+    threshold_small x y h l = ⊎_elim low (λ k. ⊎_elim top (middle k) (cases_lt (c - p) y)) (cases_lt y p)
       where
         nothing : threshold c p x ≡ 0
         nothing = threshold_low x (omega arith) h
@@ -46,7 +46,7 @@ module _ (c p : ℕ) where
         middle k m = omega (arith, nothing, threshold_middle y m k, threshold_up (x + y) (omega arith) l)
 
     threshold_sums : (x y : ℕ) → x + y ≤ c → threshold c p x + threshold c p y ≤ threshold c p (x + y)
-    threshold_sums x y l = ⊎_elim (λ h. threshold_small x y h l) (λ h. ⊎_elim (swapped h) (both h) (lt_or_ge y p)) (lt_or_ge x p)
+    threshold_sums x y l = ⊎_elim (λ h. threshold_small x y h l) (λ h. ⊎_elim (swapped h) (both h) (cases_lt y p)) (cases_lt x p)
       where
         swapped : p ≤ x → y < p → threshold c p x + threshold c p y ≤ threshold c p (x + y)
         swapped h k =

@@ -1,4 +1,5 @@
 -- The steps that change nothing: family 1 with p = 0, and family 5 with a p that divides the capacity.
+use Rattle.std.proofs.lemmas.Bool.{cases_lt}
 use mathlib.Core.Path.{◌≡◌, refl, ap, ◌∙◌}
 use mathlib.Core.Bool.{true}
 use mathlib.Core.Logic.{inr, ⊎_elim}
@@ -10,7 +11,6 @@ use Rattle.functions.specs.Words.{limit, capacity_fits}
 use Rattle.functions.specs.Families.{is_family, legal, legal_for, family_image, family_scale, burdett_johnson}
 use Rattle.functions.specs.Image.{family_refusal}
 use Rattle.functions.specs.Promise.{Identity}
-use Rattle.functions.proofs.Cases.{lt_or_ge}
 use Rattle.functions.proofs.FirstFour.{threshold_middle}
 use Rattle.functions.proofs.Remainder.{burdett_johnson_is}
 use Rattle.functions.proofs.Legal.{capacity_bounds, legal_within}
@@ -42,7 +42,7 @@ module _ (c : ℕ) (fits : capacity_fits c ≡ true) where
 
     within : p ≤ c
     within =
-        ⊎_elim (λ less. absurd (omega (arith, capacity_bounds c fits, mod-eq_of_lt less))) (λ some. some) (lt_or_ge c p)
+        ⊎_elim (λ less. absurd (omega (arith, capacity_bounds c fits, mod-eq_of_lt less))) (λ some. some) (cases_lt c p)
 
     whole : p - c % p ≡ p
     whole = omega arith

@@ -1,4 +1,5 @@
 -- What refusals 1 to 4 leave of a family step, as facts on numbers.
+use Rattle.std.proofs.lemmas.Bool.{cases_lt}
 use mathlib.Core.Path.{◌≡◌, refl, sym, ◌∙◌}
 use mathlib.Core.Bool.{Bool, true, false, cond, not, ◌&&◌, ◌||◌, and-eq-true_iff, and-false, or-true}
 use mathlib.Core.Logic.{◌⊎◌, inl, inr, ⊎_elim}
@@ -11,7 +12,7 @@ use Rattle.functions.specs.Words.{limit, capacity_fits}
 use Rattle.functions.specs.Families.{is_family, legal, legal_for, legal_pair, family_scale, ◌up◌}
 use Rattle.functions.specs.Image.{family_refusal}
 use Rattle.functions.specs.Prepared.{greatest_p}
-use Rattle.functions.proofs.Cases.{lt_or_ge, not_refused}
+use Rattle.functions.proofs.Cases.{not_refused}
 use Rattle.functions.proofs.Quotient.{up_reaches}
 
 -- by cases on a family byte
@@ -162,7 +163,7 @@ module _ (c p q : ℕ) where
 
   pub legal_for_pair : (family : ℕ) → 5 < family → family ≤ 7 → legal_for c family p q ≡ legal_pair c p q
   unfolding legal_for
-  legal_for_pair family l m = ⊎_elim (λ k. rw (six k)) (λ k. rw (seventh k)) (lt_or_ge family 7)
+  legal_for_pair family l m = ⊎_elim (λ k. rw (six k)) (λ k. rw (seventh k)) (cases_lt family 7)
     where
       six : family < 7 → family ≡ 6
       six k = omega arith
@@ -240,7 +241,7 @@ module _ (c p q : ℕ) where
 
 -- with q 0 only families 1 to 5 are accepted
 pub single_most : (c family p : ℕ) → family_refusal c family p 0 ≡ 0 → family ≤ 5
-single_most c family p e = ⊎_elim (λ l. absurd (pair l)) (λ h. h) (lt_or_ge 5 family)
+single_most c family p e = ⊎_elim (λ l. absurd (pair l)) (λ h. h) (cases_lt 5 family)
   where
     pair : 5 < family → ⊥
     pair l =

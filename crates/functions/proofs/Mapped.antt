@@ -1,15 +1,12 @@
 -- A list that a loop maps in place: the invariant and what a turn does to it.
-use mathlib.Core.Path.{◌≡◌, refl, ap, sym, ◌∙◌}
-use mathlib.Core.List.{List, [], ◌∷◌, ◌++◌, map}
-use Prim.Native.Nat.{ℕ, zero, suc, ◌+◌, ◌≤◌, ◌<◌}
+use mathlib.Core.Path.{◌≡◌, ap, sym, ◌∙◌}
+use mathlib.Core.List.{List, map}
+use Prim.Native.Nat.{ℕ, ◌+◌, ◌≤◌, ◌<◌}
 use native.Mathlib.Omega.{arith}
 use lib.ListN.{length, get_or, set, length-map}
+use Rattle.std.proofs.lemmas.List.{get_or-map}
 use Rattle.functions.specs.Words.{EachWithin}
 use Rattle.functions.proofs.Pasted.{Pasting, pasted_here, pasting_start, pasting_length, pasting_next, pasting_end}
-
-pub map_append : (f : ℕ → ℕ) (xs ys : List ℕ) → map f (xs ++ ys) ≡ map f xs ++ map f ys
-map_append f [] ys = refl
-map_append f (x ∷ xs) ys = ap (λ (l : List ℕ). f x ∷ l) (map_append f xs ys)
 
 -- the first i places of `old` hold their images
 pub record Mapped (f : ℕ → ℕ) (old sizes : List ℕ) (i : ℕ) : Type 0 where
@@ -21,11 +18,6 @@ module _ (f : ℕ → ℕ) (old : List ℕ) where
 
   pub mapped_start : Mapped f old old 0
   mapped_start = record { pasting = pasting_start (map f old) old images }
-
-  image_at : (xs : List ℕ) (i : ℕ) → i < length xs → get_or (map f xs) i 0 ≡ f (get_or xs i 0)
-  image_at [] i l = absurd (omega arith)
-  image_at (x ∷ xs) zero l = refl
-  image_at (x ∷ xs) (suc i) l = image_at xs i (omega arith)
 
   module _ (sizes : List ℕ) (i : ℕ) (m : Mapped f old sizes i) where
     pub mapped_length : length sizes ≡ length old
@@ -43,7 +35,7 @@ module _ (f : ℕ → ℕ) (old : List ℕ) where
     pub mapped_next : (v : ℕ) → i < length sizes → v ≡ f (get_or sizes i 0) → Mapped f old (set sizes i v) (i + 1)
     mapped_next v l e =
         let here : i < length old = omega (arith, mapped_length) in
-        record { pasting = pasting_next (map f old) old images sizes i m.pasting v l (e ∙ ap f (mapped_here l) ∙ sym (image_at old i here)) }
+        record { pasting = pasting_next (map f old) old images sizes i m.pasting v l (e ∙ ap f (mapped_here l) ∙ sym (get_or-map f old i 0 0 here)) }
 
     pub mapped_end : length sizes ≤ i → sizes ≡ map f old
     mapped_end l = pasting_end (map f old) old images sizes i m.pasting l

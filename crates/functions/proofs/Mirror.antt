@@ -1,4 +1,5 @@
 -- Theorem 1 of the survey: the mirror of a superadditive function is superadditive.
+use Rattle.std.proofs.lemmas.Bool.{cases_lt}
 use mathlib.Core.Path.{◌≡◌, ap}
 use mathlib.Core.Logic.{◌⊎◌, inl, inr, ⊎_elim}
 use Prim.Native.Nat.{ℕ, ◌+◌, ◌-◌, ◌*◌, ◌≤◌, ◌<◌}
@@ -6,7 +7,7 @@ use native.Mathlib.Nat.{eq-zero-or-pos}
 use native.Mathlib.Omega.{arith}
 use borrow.Author.Tests.{lt-ltb, le-ltb, eq-eqb, ne_eqb}
 use Rattle.functions.specs.Families.{mirror}
-use Rattle.functions.proofs.Cases.{Order, below, equal, above, order, lt_or_ge}
+use Rattle.functions.proofs.Cases.{Order, below, equal, above, order}
 use Rattle.functions.proofs.Superadditive.{Superadditive, monotone}
 
 module _ (c : ℕ) (g : ℕ → ℕ) where
@@ -98,7 +99,7 @@ module _ (c : ℕ) (g : ℕ → ℕ) (h : Superadditive g c) where
       go (above k) = absurd (omega arith)
 
   mirror_sums : (x y : ℕ) → x + y ≤ c → mirror c g x + mirror c g y ≤ mirror c g (x + y)
-  mirror_sums x y l = go (lt_or_ge (2 * x) c) (lt_or_ge (2 * y) c)
+  mirror_sums x y l = go (cases_lt (2 * x) c) (cases_lt (2 * y) c)
     where
       with_zero : x ≡ 0 → mirror c g x + mirror c g y ≤ mirror c g (x + y)
       with_zero e =

@@ -1,4 +1,5 @@
 -- Quotients and remainders of sums, the survey's Lemma 1 in whole numbers, and the quotient rounded up.
+use Rattle.std.proofs.lemmas.Bool.{cases_lt}
 use mathlib.Core.Path.{◌≡◌, ap, sym, ◌∙◌}
 use mathlib.Core.Logic.{⊎_elim}
 use Prim.Native.Nat.{ℕ, ◌+◌, ◌-◌, ◌*◌, ◌/◌, ◌%◌, ◌≤◌, ◌<◌}
@@ -8,7 +9,6 @@ use borrow.Author.Tests.{le-leb, lt-leb}
 use lib.Dec.{leb}
 use lib.Arith.{digits_div, digits_mod}
 use Rattle.functions.specs.Families.{◌up◌}
-use Rattle.functions.proofs.Cases.{lt_or_ge}
 use Rattle.functions.proofs.Superadditive.{Superadditive}
 
 -- the sum's quotient is that of the parts, or one more
@@ -25,7 +25,7 @@ mod_of p k a x e l = rw e (digits_mod k l)
 
 module _ (p : ℕ) (pos : 0 < p) where
   pub carry : (x y : ℕ) → Carry p x y
-  carry x y = ⊎_elim without over (lt_or_ge (x % p + y % p) p)
+  carry x y = ⊎_elim without over (cases_lt (x % p + y % p) p)
     where
       without : x % p + y % p < p → Carry p x y
       without l =
@@ -51,16 +51,16 @@ module _ (p : ℕ) (pos : 0 < p) where
         (λ ha. ⊎_elim
         (λ hb. within a b ha hb l)
         (λ hb. omega (arith, small b hb, rises a (a + b) (omega arith) l))
-        (lt_or_ge r b))
+        (cases_lt r b))
         (λ ha. omega (arith, small a ha, rises b (a + b) (omega arith) l))
-        (lt_or_ge r a)
+        (cases_lt r a)
 
     carried : (a b s : ℕ) → a < p → b < p → a + b ≡ s + p → g a + g b ≤ F + g s
     carried a b s la lb e =
         ⊎_elim
-        (λ ha. ⊎_elim (λ hb. beyond a b s ha hb la lb e) (λ hb. omega (arith, small b hb, most a la)) (lt_or_ge r b))
+        (λ ha. ⊎_elim (λ hb. beyond a b s ha hb la lb e) (λ hb. omega (arith, small b hb, most a la)) (cases_lt r b))
         (λ ha. omega (arith, small a ha, most b lb))
-        (lt_or_ge r a)
+        (cases_lt r a)
 
     pub by_quotient_and_remainder : (f : ℕ → ℕ) → ((x : ℕ) → f x ≡ F * (x / p) + g (x % p)) → (c : ℕ) → Superadditive f c
     by_quotient_and_remainder f is c =
@@ -91,11 +91,11 @@ module _ (d : ℕ) (pos : 0 < d) where
   up_below a = omega (arith, div-add-mod' (a + (d - 1)) d)
 
   pub up_least : (a k : ℕ) → a ≤ k * d → (a up d) ≤ k
-  up_least a k l = ⊎_elim (λ less. absurd (omega (arith, up_below a, mul-le-mul_right d less))) (λ h. h) (lt_or_ge k (a up d))
+  up_least a k l = ⊎_elim (λ less. absurd (omega (arith, up_below a, mul-le-mul_right d less))) (λ h. h) (cases_lt k (a up d))
 
   -- the other way round: a number whose multiple reaches a is at least the quotient rounded up
   pub up_greatest : (a k : ℕ) → k * d < a + d → k ≤ (a up d)
-  up_greatest a k l = ⊎_elim (λ less. absurd (omega (arith, up_reaches a, mul-le-mul_right d less))) (λ h. h) (lt_or_ge (a up d) k)
+  up_greatest a k l = ⊎_elim (λ less. absurd (omega (arith, up_reaches a, mul-le-mul_right d less))) (λ h. h) (cases_lt (a up d) k)
 
   pub up_most : (a : ℕ) → (a up d) ≤ a
   up_most a = up_least a a (omega (arith, mul-le-mul_left a pos))
@@ -112,7 +112,7 @@ module _ (d : ℕ) (pos : 0 < d) where
       ⊎_elim
       (λ less. absurd (omega (arith, up_below a, up_below b, up_reaches (a + b), mul-le-mul_right d less)))
       (λ h. h)
-      (lt_or_ge (((a + b) up d) + 1) ((a up d) + (b up d)))
+      (cases_lt (((a + b) up d) + 1) ((a up d) + (b up d)))
 
   -- a whole part is not rounded
   pub up_whole : (a k : ℕ) → ((k * d + a) up d) ≡ k + (a up d)
@@ -120,11 +120,11 @@ module _ (d : ℕ) (pos : 0 < d) where
 
   -- q is at least the quotient rounded up less 1 where q + 1 divisors reach a
   pub up_test : (a q : ℕ) → leb ((a up d) - 1) q ≡ leb a ((q + 1) * d)
-  up_test a q = ⊎_elim below reached (lt_or_ge ((q + 1) * d) a)
+  up_test a q = ⊎_elim below reached (cases_lt ((q + 1) * d) a)
     where
       below : (q + 1) * d < a → leb ((a up d) - 1) q ≡ leb a ((q + 1) * d)
       below l =
-          let more : q + 1 < (a up d) = ⊎_elim (λ h. h) (λ h. absurd (omega (arith, up_reaches a, mul-le-mul_right d h))) (lt_or_ge (q + 1) (a up d)) in
+          let more : q + 1 < (a up d) = ⊎_elim (λ h. h) (λ h. absurd (omega (arith, up_reaches a, mul-le-mul_right d h))) (cases_lt (q + 1) (a up d)) in
           lt-leb ((a up d) - 1) q (omega arith) ∙ sym (lt-leb a ((q + 1) * d) l)
 
       reached : a ≤ (q + 1) * d → leb ((a up d) - 1) q ≡ leb a ((q + 1) * d)

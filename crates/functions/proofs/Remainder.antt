@@ -1,4 +1,5 @@
 -- Families 5 and 6, or what family 6 mirrors, are superadditive: Lemma 1 at what they add for a remainder.
+use Rattle.std.proofs.lemmas.Bool.{cases_lt}
 use mathlib.Core.Path.{◌≡◌, ap, ◌∙◌}
 use mathlib.Core.Logic.{⊎_elim}
 use Prim.Native.Nat.{ℕ, ◌+◌, ◌-◌, ◌*◌, ◌/◌, ◌%◌, ◌≤◌, ◌<◌}
@@ -8,7 +9,6 @@ use borrow.Author.Tests.{lt-ltb, le-ltb}
 use Rattle.functions.specs.Words.{limit}
 use Rattle.functions.specs.Families.{burdett_johnson, letchford_lodi, theta, ◌up◌}
 use Rattle.functions.proofs.Bounds.{product_most, twice_most}
-use Rattle.functions.proofs.Cases.{lt_or_ge}
 use Rattle.functions.proofs.Superadditive.{Superadditive}
 use Rattle.functions.proofs.Quotient.{by_quotient_and_remainder, up_least, up_monotone, up_zero, up_sum, up_whole}
 
@@ -20,7 +20,7 @@ module _ (p r : ℕ) where
       ⊎_elim
       (λ l. simp (lt-ltb r (x % p) l) (omega arith))
       (λ l. simp (le-ltb r (x % p) l) (omega arith))
-      (lt_or_ge r (x % p))
+      (cases_lt r (x % p))
 
   pub burdett_johnson_superadditive : (c : ℕ) → r < p → Superadditive (burdett_johnson p r) c
   burdett_johnson_superadditive c less =
@@ -62,7 +62,7 @@ module _ (p q r : ℕ) (less : r < p) where
       ⊎_elim
       (λ l. simp (lt-ltb r (x % p) l))
       (λ l. simp (le-ltb r (x % p) l) (omega (arith, theta_small (x % p) l)))
-      (lt_or_ge r (x % p))
+      (cases_lt r (x % p))
 
   pub letchford_lodi_most : (x : ℕ) → x ≤ limit → q ≤ limit → letchford_lodi p q r x ≤ (limit + 1) * (limit + 1) + limit
   letchford_lodi_most x hx hq =

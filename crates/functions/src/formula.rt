@@ -1,6 +1,7 @@
 // The seven formulas at one size. What a formula needs and the size does not change, as the
 // remainder of the capacity, comes in as a number, so that a loop over sizes computes it once. Each
-// asks for bounds of the numbers that it takes: no two take the same, so no struct holds them.
+// asks for what its formula needs alone, which is less than that a step is accepted. As methods of
+// `PreparedStep` all would ask for the whole step.
 ghost use Rattle.std.specs.Prelude.{◌≡◌, ℕ, ◌+◌, ◌-◌, ◌*◌, ◌^◌, ◌≤◌, ◌<◌, min};
 ghost use Rattle.functions.specs.Words.{limit};
 ghost use Rattle.functions.specs.Families.{mirror, threshold, rounding, quotient, vanderbeck};
@@ -16,16 +17,19 @@ fn side(top: u64, part: u64, x: u64, rest: u64) -> u64
     if x < rest { part } else { top - part }
 }
 
-// The mirror of a function at x, from its values: top at the capacity c, and part at the lesser of
-// x and the rest. Both tests choose between numbers that are there, so that the compiler needs no
-// branch.
-fn mirrored(top: u64, part: u64, x: u64, rest: u64) -> u64
-    requires { (part ≤ top) × (2 * top < 2 ^ 64) }
-    ensures { (c : ℕ) (g : ℕ → ℕ) → x + rest ≡ c → g c ≡ top → g (min x rest) ≡ part
-        → result ≡ mirror c g x }
+// The mirror at x of a function that `half` computes, from its value top at the capacity. Both tests
+// choose between numbers that are there, so that the compiler needs no branch.
+fn mirrored<F: Fn(u64) -> u64>(capacity: u64, top: u64, x: u64, half: F) -> u64
+    requires range { (x ≤ capacity) × (2 * top < 2 ^ 64) }
+    requires callable { (y : ℕ) → y ≤ capacity → F.pre half y }
+    requires within { (y : ℕ) (part : ℕ) → y ≤ capacity → F.post half y part → part ≤ top }
+    ensures { (g : ℕ → ℕ) → g capacity ≡ top → ((y : ℕ) (part : ℕ) → y ≤ capacity → F.post half y part → part ≡ g y)
+        → result ≡ mirror capacity g x }
 {
-    let half = side(top, part, x, rest);
-    if x == rest { top } else { 2 * half }
+    let rest = capacity - x;
+    let part = half(x.min(rest));
+    let side = side(top, part, x, rest);
+    if x == rest { top } else { 2 * side }
 }
 
 // Family 1. No size passes both tests.
@@ -58,8 +62,7 @@ pub(crate) fn mirrored_quotient(capacity: u64, p: u64, top: u64, x: u64) -> u64
     requires { (x ≤ capacity) × (capacity ≤ limit) × (0 < p) × (top ≡ quotient p capacity) }
     ensures { result ≡ mirror capacity (quotient p) x }
 {
-    let rest = capacity - x;
-    mirrored(top, x.min(rest) / p, x, rest)
+    mirrored(capacity, top, x, |least| least / p)
 }
 
 // Family 4, with top = p - 1. The quotient is 0 for the size 0 alone, so that a difference which
@@ -69,9 +72,12 @@ pub(crate) fn mirrored_vanderbeck(capacity: u64, p: u64, top: u64, x: u64) -> u6
         × (top ≡ vanderbeck capacity p capacity) }
     ensures { result ≡ mirror capacity (vanderbeck capacity p) x }
 {
-    let rest = capacity - x;
-    let part = round_up(p * x.min(rest), capacity).saturating_sub(1);
-    mirrored(top, part, x, rest)
+    mirrored(
+        capacity,
+        top,
+        x,
+        |least| round_up(p * least, capacity).saturating_sub(1),
+    )
 }
 
 // Family 5, with r = capacity % p.
@@ -103,9 +109,7 @@ pub(crate) fn mirrored_letchford_lodi(
         × (r < p) × (p - r ≤ q * r) × (top ≡ letchford_lodi p q r capacity) }
     ensures { result ≡ mirror capacity (letchford_lodi p q r) x }
 {
-    let rest = capacity - x;
-    let part = letchford_lodi(p, q, r, x.min(rest));
-    mirrored(top, part, x, rest)
+    mirrored(capacity, top, x, |least| letchford_lodi(p, q, r, least))
 }
 
 // Family 7, with r = capacity % p. The gap p - r divides q * (p - a) where it divides n.

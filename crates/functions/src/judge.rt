@@ -1,4 +1,5 @@
-// Whether a family step is accepted, and its scale.
+// Whether a family step is accepted, and its scale. C and a job's step pass capacity, family, p and q singly:
+// the struct that holds them, `FamilyStep`, is made behind these tests.
 ghost use Rattle.std.specs.Prelude.{◌≡◌, true, ◌+◌, ◌-◌, ◌*◌, ◌/◌, ◌%◌, ◌≤◌, ◌<◌};
 ghost use Rattle.functions.specs.Words.{limit, capacity_fits};
 ghost use Rattle.functions.specs.Families.{is_family, legal, legal_for, legal_pair, family_scale};
@@ -10,7 +11,7 @@ use crate::LIMIT;
 pub(crate) fn is_family(family: u8) -> bool
     ensures { result ≡ is_family family }
 {
-    1 <= family && family <= 7
+    (1..=7).contains(&family)
 }
 
 // The parameter of families 1 to 5, which have no q. It is no more than the greatest.

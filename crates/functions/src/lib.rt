@@ -8,7 +8,7 @@ mod judge;
 mod step;
 mod steps;
 
-ghost use Rattle.std.specs.Prelude.{◌≡◌, ◌+◌, ◌-◌, ◌*◌, ◌^◌, ◌<◌, IfOk};
+ghost use Rattle.std.specs.Prelude.{◌≡◌, ◌+◌, ◌-◌, ◌*◌, ◌^◌, ◌<◌, IfOk, cond};
 ghost use Rattle.refusals.specs.Number.{number_in, number_of};
 ghost use Rattle.functions.specs.Words.{capacity_fits};
 ghost use Rattle.functions.specs.Families.{◌up◌};
@@ -43,16 +43,25 @@ pub fn round_up(a: u64, b: u64) -> u64
 pub fn capacity_fits(capacity: u64) -> bool
     ensures { result ≡ capacity_fits capacity }
 {
-    1 <= capacity && capacity <= LIMIT
+    (1..=LIMIT).contains(&capacity)
 }
 
-pub fn judge_family(capacity: u64, family: u8, p: u64, q: u64) -> Result<FamilyStep, Refusal>
-    ensures number { number_in result ≡ family_refusal capacity family p q }
-    ensures step { IfOk result (λ s. (s.capacity ≡ capacity) × (s.family ≡ family) × (s.p ≡ p) × (s.q ≡ q)) }
+// Refusal 1.
+pub fn accept_capacity(capacity: u64) -> Result<(), Refusal>
+    ensures { number_in result ≡ cond (capacity_fits capacity) 0 1 }
 {
     if !capacity_fits(capacity) {
         return Err(Refusal::Capacity);
     }
+    Ok(())
+}
+
+#[tactic(auto, using(crate::proofs::Legal::capacity_bounds, crate::proofs::Legal::family_bounds), unfolding(crate::specs::Image::family_refusal))]
+pub fn judge_family(capacity: u64, family: u8, p: u64, q: u64) -> Result<FamilyStep, Refusal>
+    ensures number { number_in result ≡ family_refusal capacity family p q }
+    ensures step { IfOk result (λ s. (s.capacity ≡ capacity) × (s.family ≡ family) × (s.p ≡ p) × (s.q ≡ q)) }
+{
+    accept_capacity(capacity)?;
     if !judge::is_family(family) {
         return Err(Refusal::Family);
     }
@@ -77,13 +86,14 @@ impl From<Refusal> for ImageAnswer {
 
     fn from(refusal: Refusal) -> ImageAnswer {
         ImageAnswer {
-            number: refusal.number(),
+            number: u64::from(refusal),
             image: 0,
             scale: 0,
         }
     }
 }
 
+// Its `Ok` is C's answer with number 0: a struct of the same image and scale would be no plainer.
 fn accepted_image(capacity: u64, family: u8, p: u64, q: u64, x: u64) -> Result<ImageAnswer, Refusal>
     ensures number { number_in result ≡ image_refusal capacity family p q x }
     ensures answer { IfOk result (λ answer. answer ≡ image_answer capacity family p q x) }
@@ -102,10 +112,7 @@ fn accepted_image(capacity: u64, family: u8, p: u64, q: u64, x: u64) -> Result<I
 fn answer_for(capacity: u64, family: u8, p: u64, q: u64, x: u64) -> ImageAnswer
     ensures { result ≡ image_answer capacity family p q x }
 {
-    match accepted_image(capacity, family, p, q, x) {
-        Ok(answer) => answer,
-        Err(refusal) => ImageAnswer::from(refusal),
-    }
+    accepted_image(capacity, family, p, q, x).unwrap_or_else(ImageAnswer::from)
 }
 
 // The family is chosen once: in each arm it is a constant, and what depends on it is folded.

@@ -10,6 +10,8 @@ use std::io::{self, Write};
 // The most bytes of standard input that are read.
 const MOST_BYTES: usize = 65_536;
 
+// A few numbers are written by a `writeln!` or two, as in each case program but `job_cases`: a type with
+// `Display` for them would be longer.
 fn run_case<W: Write>(out: &mut W, numbers: &mut Numbers<'_>) -> io::Result<()>
     ensures { PassesSome result numbers.old numbers.new }
 {
@@ -18,6 +20,7 @@ fn run_case<W: Write>(out: &mut W, numbers: &mut Numbers<'_>) -> io::Result<()>
     writeln!(out, "{} {} {}", answer.number, answer.image, answer.scale)
 }
 
+// Each case program has such a `main`, the one call of `cases::run` with its own case.
 fn main(rt: HostRuntime) -> io::Result<()> {
     cases::run::<MOST_BYTES, _>(rt, 1, run_case)
 }

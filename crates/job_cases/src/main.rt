@@ -38,8 +38,7 @@ impl fmt::Display for Shown {
 
 // The places that a case lends of a buffer, filled from a number on.
 fn lent(buffer: &mut [u32], places: u64, first: u32) -> &mut [u32] {
-    let count = buffers::at_most(places, buffer.len());
-    let lent = &mut buffer[..count];
+    let lent = buffers::front(buffer, places);
     buffers::fill(lent, first, 1);
     lent
 }
@@ -53,7 +52,7 @@ fn run_job<W: Write>(out: &mut W, job: &[u8], places: [u64; 5]) -> io::Result<()
     let mut scales = [0u32; MOST_PLACES];
     let mut floors = [0u32; MOST_PLACES];
     let images = lent(&mut images, i, 800_000);
-    let working = &mut working[..buffers::at_most(w, MOST_PLACES)];
+    let working = buffers::front(&mut working, w);
     buffers::fill_working(working);
     let list = lent(&mut list, l, 900_000);
     let scales = lent(&mut scales, s, 700_000);

@@ -1,20 +1,21 @@
 -- The whole job operation: which refusal stands, and that an accepted answer is safe.
+use Rattle.std.proofs.lemmas.Bool.{or_parts}
 use Rattle.std.specs.Prelude.{Result, Ok, Err}
 use Rattle.std.specs.Result.{MatchResult}
-use Rattle.std.proofs.lemmas.List.{take-append-drop, drop-append-le}
+use Rattle.std.proofs.lemmas.List.{take-append-drop}
 use mathlib.Core.Path.{◌≡◌, refl, ap, sym, ◌∙◌}
 use mathlib.Core.Bool.{Bool, true, false, cond, not, ◌||◌}
-use mathlib.Core.List.{List, ◌++◌, map, append_assoc}
+use mathlib.Core.List.{List, ◌++◌, map}
 use mathlib.Core.Logic.{⊎_elim}
 use Prim.Native.Nat.{ℕ, ◌-◌, ◌≤◌, ◌<◌}
 use native.Mathlib.Nat.{eq-zero-or-pos}
 use native.Mathlib.Omega.{arith}
 use borrow.Author.Tests.{eqb-true, eqb-false, eq-eqb, ne_eqb, ltb-false}
 use lib.Dec.{ltb, eqb}
-use lib.ListN.{length, length-map, length-append, get_or, take, drop}
+use lib.ListN.{length, length-map, get_or, take, drop}
 use lib.Seq.{take_at}
 use Rattle.functions.specs.Words.{total}
-use Rattle.functions.proofs.Cases.{not_refused, neither}
+use Rattle.functions.proofs.Cases.{not_refused}
 use Rattle.tables.specs.Check.{most_entries}
 use Rattle.fields.specs.Bytes.{halfwords}
 use Rattle.fields.specs.Parts.{Field, value_of, Step, Row, job_kind, job_capacity, job_sizes, job_counts, block_numbers, job_steps, job_rows, coefficient_count}
@@ -27,13 +28,14 @@ use Rattle.blocks.specs.Block.{divide, block_floor}
 use Rattle.blocks.proofs.Dividing.{fit}
 use Rattle.jobs.specs.Kinds.{is_kind, least_of, rows_fit}
 use Rattle.jobs.specs.Packing.{FloorSafe, TotalSafe, ChainPromise}
-use Rattle.chains.specs.Judge.{Judgement, plain, StepOvershoots, RefusedAs, list_by}
+use Rattle.chains.specs.Judge.{place_of, Judgement, plain, StepOvershoots, RefusedAs, list_by}
 use Rattle.jobs.specs.JudgeRows.{judge_row, judge_rows}
 use Rattle.jobs.specs.Job.{fields_in, is_divided, blocks_right, judge_fields, judge_reading, Places, buffer_refusal, judge_job, row_images, row_scale, job_images, job_count, job_scales, job_floor, job_blocks, job_block_floors, job_total, accepted_answer, refused_answer, answer_by, images_by, scales_by, floors_written, blocks_by, Finished, OutcomeBy, Answered, start_capacity, CutHolds, RowHolds, no_block, JobSafe}
 use Rattle.jobs.specs.declared.JobAnswer.{JobAnswer}
 use Rattle.chains.specs.declared.Refused.{Refused}
 use Rattle.jobs.proofs.Promise.{chain_is_safe}
 use Rattle.chains.proofs.Judged.{list_overshoots}
+use Rattle.chains.proofs.Present.{placed}
 use Rattle.jobs.proofs.Judged.{row_appliable, rows_accepted, list_fine, blocks_fine, rows_fine, kind_refused, rows_kind_lem, list_kind, rows_overshoot}
 use Rattle.jobs.proofs.Writing.{images_at, value_at}
 use Rattle.jobs.proofs.Finishing.{images_count}
@@ -57,10 +59,10 @@ rooms n lent e =
     let three = two || ltb lent.list (most_entries - 1) in
     let four = three || ltb lent.scales most_rows in
     let enough = (not_refused (four || ltb lent.blocks most_blocks) 7 0 (omega arith) (not_refused (ltb most_bytes n) 12 _ (omega arith) e).1).0 in
-    let fifth = neither four (ltb lent.blocks most_blocks) enough in
-    let last = neither three (ltb lent.scales most_rows) fifth.0 in
-    let third = neither two (ltb lent.list (most_entries - 1)) last.0 in
-    let first = neither (ltb lent.images most_sizes) (ltb lent.working most_entries) third.0 in
+    let fifth = or_parts four (ltb lent.blocks most_blocks) enough in
+    let last = or_parts three (ltb lent.scales most_rows) fifth.0 in
+    let third = or_parts two (ltb lent.list (most_entries - 1)) last.0 in
+    let first = or_parts (ltb lent.images most_sizes) (ltb lent.working most_entries) third.0 in
     record {
       for_images = ltb-false lent.images most_sizes first.0;
       for_working = ltb-false lent.working most_entries first.1;
@@ -90,13 +92,6 @@ module _ (r : Judgement) (fields : List Field) (images list scales blocks list' 
       }
 
 -- the same in the whole buffers, of which the first places were lent
-placed : (xs part whole : List ℕ) (n : ℕ) → length part ≡ length (take n whole) → part ≡ xs ++ drop (length xs) (take n whole) → part ++ drop n whole ≡ xs ++ drop (length xs) whole
-placed xs part whole n long e =
-    let inside : length xs ≤ length (take n whole) = omega (arith, long, ap length e, length-append xs (drop (length xs) (take n whole))) in
-    ap (λ (l : List ℕ). l ++ drop n whole) e
-    ∙ append_assoc xs (drop (length xs) (take n whole)) (drop n whole)
-    ∙ ap (λ (l : List ℕ). xs ++ l) (sym (drop-append-le (length xs) (take n whole) (drop n whole) inside) ∙ ap (drop (length xs)) (take-append-drop n whole))
-
 placed_by : (test : Bool) (xs part whole : List ℕ) (n k : ℕ) → k ≡ length xs → length part ≡ length (take n whole) → part ≡ cond test (xs ++ drop k (take n whole)) (take n whole) → part ++ drop n whole ≡ cond test (xs ++ drop k whole) whole
 placed_by true xs part whole n k is long e = rw is (placed xs part whole n long (rw is at e))
 placed_by false xs part whole n k is long e = ap (λ (l : List ℕ). l ++ drop n whole) e ∙ take-append-drop n whole
@@ -246,13 +241,17 @@ module _ (job : List ℕ) (lent : Places) where
   buffers_refused n e some = rw (← e, ne_eqb n 0 some)
 
   module _ (buffers : buffer_refusal (length job) lent ≡ 0) where
-    pub reading_refused : (n : ℕ) → job_fields job ≡ refused n → judge_job job lent ≡ plain n
-    unfolding judge_job judge_reading
-    reading_refused n e = rw (buffers, e)
+    pub by_reading : judge_job job lent ≡ judge_reading (job_fields job)
+    unfolding judge_job
+    by_reading = rw buffers
+
+    reading_refused : (n : ℕ) → job_fields job ≡ refused n → judge_job job lent ≡ plain n
+    unfolding judge_reading
+    reading_refused n e = by_reading ∙ rw e
 
     pub reading_passed : (fields : List Field) → job_fields job ≡ complete fields → judge_job job lent ≡ judge_fields fields
-    unfolding judge_job judge_reading
-    reading_passed fields e = rw (buffers, e)
+    unfolding judge_reading
+    reading_passed fields e = by_reading ∙ rw e
 
   -- 11 of the job is 11 of its fields
   job_overshoots : (judge_job job lent).number ≡ 11 → StepOvershoots (start_capacity (fields_in job) (judge_job job lent).row) (job_steps (fields_in job)) (judge_job job lent).step (judge_job job lent).list
@@ -271,7 +270,7 @@ module _ (job : List ℕ) (lent : Places) where
 
 -- the answer, by the outcome
 module _ (r : Judgement) (fields : List Field) (answer : JobAnswer) where
-  pub answer_is : (outcome : Result JobAnswer Refused) → OutcomeBy r fields outcome → MatchResult outcome (λ accepted. answer ≡ accepted) (λ e. answer ≡ record { number = number_of e.refusal; n = 0; floor = 0; sum = 0; scale = 0; step = e.step; length = e.length; row = e.row; total = 0 }) → answer ≡ answer_by r fields
+  pub answer_is : (outcome : Result JobAnswer Refused) → OutcomeBy r fields outcome → MatchResult outcome (λ accepted. answer ≡ accepted) (λ e. answer ≡ record { number = number_of e.refusal; n = 0; floor = 0; sum = 0; scale = 0; step = place_of e.step; length = e.length; row = place_of e.row; total = 0 }) → answer ≡ answer_by r fields
   unfolding answer_by refused_answer
   answer_is (Ok accepted) told is = rw (eq-eqb r.number 0 told.0) (is ∙ told.1)
   answer_is (Err e) told is =

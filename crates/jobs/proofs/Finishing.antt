@@ -1,7 +1,7 @@
 -- The images and the answer of an accepted job, from what the code computes.
 use Rattle.std.specs.Prelude.{None, Some}
 use denote.Bor.{Bor}
-use mathlib.Core.Path.{◌≡◌, ap, sym, ◌∙◌}
+use mathlib.Core.Path.{◌≡◌, refl, ap, sym, ◌∙◌}
 use mathlib.Core.Bool.{Bool, true, false, cond}
 use mathlib.Core.List.{List, [], ◌++◌, map}
 use mathlib.Core.Logic.{inl, inr, ⊎_elim}
@@ -35,6 +35,12 @@ use Rattle.chains.proofs.Chains.{chain_promise}
 use Rattle.jobs.proofs.Judged.{fit_bounds}
 use Rattle.jobs.proofs.Judged.{rows_fine, list_fine, blocks_fine}
 use Rattle.jobs.proofs.Writing.{rows_count}
+
+-- an answer of which each field is 0, as its default
+pub none_answered : (a : JobAnswer) → (a.number ≡ 0) × ((a.n ≡ 0) × ((a.floor ≡ 0) × ((a.sum ≡ 0) × ((a.scale ≡ 0) × ((a.step ≡ 0) × ((a.length ≡ 0) × ((a.row ≡ 0) × (a.total ≡ 0)))))))) → a ≡ record { number = 0; n = 0; floor = 0; sum = 0; scale = 0; step = 0; length = 0; row = 0; total = 0 }
+none_answered a z =
+    let fields : a ≡ record { number = a.number; n = a.n; floor = a.floor; sum = a.sum; scale = a.scale; step = a.step; length = a.length; row = a.row; total = a.total } = refl in
+    fields ∙ rw (z.0, z.1.0, z.1.1.0, z.1.1.1.0, z.1.1.1.1.0, z.1.1.1.1.1.0, z.1.1.1.1.1.1.0, z.1.1.1.1.1.1.1.0, z.1.1.1.1.1.1.1.1) refl
 
 -- as many images as the answer's n says
 pub images_count : (fields : List Field) → length (job_images fields) ≡ job_count fields
@@ -183,7 +189,6 @@ module _ (fields : List Field) (accepted : (judge_fields fields).number ≡ 0) (
           ready floors room =
               record {
                 counted = record { none_or_each = counted; few = few };
-                even = divided.1;
                 fit = rw (numbers_are, count ∙ count_of) (blocks_fine fields list accepted divided_so);
                 within = within_scale;
                 positive = scale_range.0;

@@ -1,7 +1,6 @@
 -- What the refusals of rows and of a whole job leave of one that is accepted.
-use Rattle.std.specs.Prelude.{Result, Ok, Err}
+use Rattle.std.specs.Prelude.{Some, Result, Ok, Err}
 use Rattle.std.specs.Result.{MatchResult, IsErrAnd}
-use Rattle.std.proofs.lemmas.Result.{err_from_is_err_and}
 use mathlib.Core.Path.{◌≡◌, refl, ap, sym, ◌∙◌}
 use mathlib.Core.Bool.{Bool, true, false, cond, not, ◌&&◌, and-eq-true_iff}
 use mathlib.Core.List.{List, [], ◌∷◌}
@@ -26,6 +25,7 @@ use Rattle.chains.specs.Judge.{Judgement, plain, judge_list, StepOvershoots, lis
 use Rattle.chains.specs.declared.Refused.{Refused}
 use Rattle.fields.proofs.Filling.{no_counts}
 use Rattle.chains.proofs.Judged.{tables_pass, given_judged, list_appliable, list_divided, list_none, list_overshoots}
+use Rattle.refusals.proofs.Stopped.{stopped}
 use Rattle.jobs.specs.Kinds.{is_kind, least_of, rows_fit}
 use Rattle.jobs.specs.JudgeRows.{judge_row, in_row, judge_rows}
 use Rattle.blocks.specs.Block.{blocks_fit}
@@ -96,12 +96,11 @@ module _ (S : List Step) where
       (eq-zero-or-pos (judge_row S r).number)
 
 -- judged in a row, of which the place is put into what is told
-pub in_row_judged : (k : ℕ) (r : Judgement) (list list' : List ℕ) {A : Type 0} (outcome placed : Result A Refused) → MatchResult outcome (λ value. placed ≡ Ok value) (λ e. IsErrAnd placed (λ next. next ≡ record { refusal = e.refusal; row = k + 1; step = e.step; length = e.length })) → Judged r list outcome list' → Judged (in_row (suc k) r) list placed list'
+pub in_row_judged : (k : ℕ) (r : Judgement) (list list' : List ℕ) {A : Type 0} (outcome placed : Result A Refused) → MatchResult outcome (λ value. placed ≡ Ok value) (λ e. IsErrAnd placed (λ next. next ≡ record { refusal = e.refusal; row = Some (k + 1); step = e.step; length = e.length })) → Judged r list outcome list' → Judged (in_row (suc k) r) list placed list'
 unfolding in_row list_by
 in_row_judged k r list list' (Ok value) placed same j = rw same (record { told = j.told; list_is = j.list_is })
 in_row_judged k r list list' (Err e) placed mapped j =
-    let next = err_from_is_err_and placed mapped in
-    rw (next.1, next.2)
+    rw (stopped placed mapped)
     (record {
       told = record { number_is = j.told.number_is; row_is = add-one k; step_is = j.told.step_is; length_is = j.told.length_is };
       list_is = j.list_is;

@@ -1,6 +1,7 @@
 -- A kind, by its number.
 use mathlib.Core.Path.{◌≡◌, refl}
 use mathlib.Core.Bool.{true}
+use mathlib.Core.Logic.{◌⊎◌, ⊎_elim}
 use Prim.Native.Nat.{ℕ}
 use native.Mathlib.Omega.{arith}
 use Rattle.fields.specs.Grammar.{floor_kind, rows_kind}
@@ -13,10 +14,11 @@ floor_of Floor e = refl
 floor_of Cut e = absurd (omega (arith, e))
 floor_of Rows e = absurd (omega (arith, e))
 
-pub rows_of : (kind : JobKind) → kind_number kind ≡ rows_kind → kind ≡ Rows
-rows_of Floor e = absurd (omega (arith, e))
-rows_of Cut e = absurd (omega (arith, e))
-rows_of Rows e = refl
+pub no_floor : (kind : JobKind) → (kind ≡ Cut) ⊎ (kind ≡ Rows) → kind_number kind ≡ floor_kind → ⊥
+no_floor kind is e = ⊎_elim (λ cut. omega (arith, rw cut at e)) (λ rows. omega (arith, rw rows at e)) is
+
+pub no_rows : (kind : JobKind) → (kind ≡ Floor) ⊎ (kind ≡ Cut) → kind_number kind ≡ rows_kind → ⊥
+no_rows kind is e = ⊎_elim (λ floor. omega (arith, rw floor at e)) (λ cut. omega (arith, rw cut at e)) is
 
 pub known : (kind : JobKind) (number : ℕ) → kind_number kind ≡ number → is_kind number ≡ true
 unfolding is_kind

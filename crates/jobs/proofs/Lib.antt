@@ -3,6 +3,7 @@ pub mod Separate
 pub mod Promise
 pub mod Outside
 pub mod KindNumbers
+pub mod Taken
 pub mod Judged
 pub mod Writing
 pub mod Finishing

@@ -15,7 +15,7 @@ use Rattle.functions.specs.Families.{◌up◌}
 use Rattle.functions.specs.Promise.{StepPromise}
 use Rattle.functions.proofs.Superadditive.{total_append}
 use Rattle.functions.proofs.Totals.{total_none, total_cons, weighted_no_counts, weighted_none, weighted_cons, total_plus, total_repeated, feasible_images}
-use Rattle.functions.proofs.Mapped.{map_append}
+use Rattle.std.proofs.lemmas.List.{map-append}
 use Rattle.functions.proofs.Quotient.{up_zero, up_least}
 use Rattle.functions.proofs.Summed.{total_most}
 use Rattle.fields.specs.Parts.{Step}
@@ -127,7 +127,7 @@ unfolding copies
 copies_total f [] sizes = total_none ∙ sym (weighted_no_counts (map f sizes))
 copies_total f (n ∷ counts) [] = total_none ∙ sym (weighted_none (n ∷ counts))
 copies_total f (n ∷ counts) (x ∷ sizes) =
-    ap total (map_append f (replicate n x) (copies counts sizes))
+    ap total (map-append f (replicate n x) (copies counts sizes))
     ∙ total_append (map f (replicate n x)) (map f (copies counts sizes))
     ∙ omega (arith, total_repeated f n x, copies_total f counts sizes, weighted_cons n counts (f x) (map f sizes))
 

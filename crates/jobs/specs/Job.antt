@@ -7,7 +7,7 @@ use Rattle.fields.specs.Bytes.{words}
 use Rattle.fields.specs.Parts.{Field, Step, Row, job_kind, job_capacity, job_sizes, job_counts, block_numbers, blocks_there, job_steps, job_rows, coefficient_count}
 use Rattle.fields.specs.Grammar.{most_bytes, most_sizes, most_rows, most_blocks, floor_kind, rows_kind}
 use Rattle.fields.specs.Reading.{Fields, refused, complete, job_fields, fields_of}
-use Rattle.fields.specs.Record.{no_row, steps_in, PartsOf}
+use Rattle.fields.specs.Record.{no_row, steps_in}
 use Rattle.fields.specs.declared.JobParts.{JobParts}
 use Rattle.chains.specs.Chain.{chain_image, chain_scale, chain_floor}
 use Rattle.chains.specs.Apply.{ChainApplied}
@@ -141,14 +141,13 @@ floors_written fields blocks = job_block_floors fields ++ drop (length (job_bloc
 unfoldable pub blocks_by : Judgement → List Field → List ℕ → List ℕ
 blocks_by r fields blocks = cond (eqb r.number 0) (floors_written fields blocks) blocks
 
--- the parts of an accepted job that is a list or one row, and of a floor job with its images
-pub record ListReady (fields : List Field) (parts : JobParts) : Type 0 where
-  pub parts_are : PartsOf fields parts
+-- an accepted job that is a list, and a floor job with its images
+pub record ListReady (fields : List Field) : Type 0 where
   pub accepted : (judge_fields fields).number ≡ 0
   pub no_rows : job_kind fields ≡ rows_kind → ⊥
 
 pub record FloorReady (fields : List Field) (parts : JobParts) (scale : ℕ) (images : List ℕ) : Type 0 where
-  pub list : ListReady fields parts
+  pub list : ListReady fields
   pub is_floor : job_kind fields ≡ floor_kind
   pub applied : ChainApplied parts.capacity (steps_in parts.steps) (words parts.sizes.now) scale images
 

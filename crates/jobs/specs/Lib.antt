@@ -3,3 +3,4 @@ pub mod Rows
 pub mod Kinds
 pub mod JudgeRows
 pub mod Job
+pub mod Read

@@ -2,13 +2,14 @@
 ghost use Rattle.std.specs.Prelude.{◌≡◌};
 ghost use Rattle.jobs.specs.Kinds.{kind_number, least_of, KindOf};
 
+use fields::{FLOOR_KIND, ROWS_KIND};
 use refusals::Refusal;
 
 #[derive(Clone, Copy, Debug, PartialEq, Eq)]
 pub(crate) enum JobKind {
-    Floor = 1,
-    Cut = 2,
-    Rows = 3,
+    Floor,
+    Cut,
+    Rows,
 }
 
 impl TryFrom<u8> for JobKind {
@@ -19,16 +20,16 @@ impl TryFrom<u8> for JobKind {
     #[tactic(auto, unfolding(crate::specs::Kinds::is_kind))]
     fn try_from(number: u8) -> Result<JobKind, Refusal> {
         match number {
-            1 => Ok(JobKind::Floor),
+            FLOOR_KIND => Ok(JobKind::Floor),
             2 => Ok(JobKind::Cut),
-            3 => Ok(JobKind::Rows),
+            ROWS_KIND => Ok(JobKind::Rows),
             _ => Err(Refusal::JobKind),
         }
     }
 }
 
 impl JobKind {
-    // The least size of a list: a coefficient may be 0.
+    // The least number in a list: a floor's sizes are from 1 on, coefficients from 0.
     #[tactic(auto, unfolding(crate::specs::Kinds::least_of))]
     pub(crate) fn least(self) -> u64
         ensures { result ≡ least_of (kind_number self) }

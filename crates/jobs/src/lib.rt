@@ -4,12 +4,13 @@
 
 mod answer;
 mod kind;
+mod read;
 mod rows;
 
 ghost use Rattle.std.specs.Prelude.{◌≡◌, length, take};
 ghost use Rattle.refusals.specs.Number.{number_of};
 ghost use Rattle.fields.specs.Parts.{job_steps};
-ghost use Rattle.chains.specs.Judge.{StepOvershoots};
+ghost use Rattle.chains.specs.Judge.{place_of, StepOvershoots};
 ghost use Rattle.jobs.specs.Job.{
   fields_in,
   places_of,
@@ -30,7 +31,7 @@ use chains::Refused;
 // lower bound on bins, the sum of images and the scale; the place of a refused step, the length of the
 // list, and the place of a refused row; the total of the blocks' lower bounds.
 #[repr(C)]
-#[derive(Clone, Copy)]
+#[derive(Clone, Copy, Default)]
 pub struct JobAnswer {
     pub number: u64,
     pub n: u64,
@@ -50,23 +51,19 @@ impl From<Refused> for JobAnswer {
       floor = 0;
       sum = 0;
       scale = 0;
-      step = refused.step;
+      step = place_of refused.step;
       length = refused.length;
-      row = refused.row;
+      row = place_of refused.row;
       total = 0;
     } };
 
     fn from(refused: Refused) -> JobAnswer {
         JobAnswer {
-            number: refused.refusal.number(),
-            n: 0,
-            floor: 0,
-            sum: 0,
-            scale: 0,
-            step: refused.step,
+            number: u64::from(refused.refusal),
+            step: refused.step.unwrap_or(0),
             length: refused.length,
-            row: refused.row,
-            total: 0,
+            row: refused.row.unwrap_or(0),
+            ..JobAnswer::default()
         }
     }
 }

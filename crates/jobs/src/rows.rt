@@ -1,16 +1,17 @@
 // The rows of a job, judged in order, and then written one behind the other.
-ghost use Rattle.std.specs.Prelude.{◌≡◌, cond, not, ◌++◌, map, suc, ◌*◌, ◌%◌, ◌≤◌, ◌<◌, ◌^◌, length, drop};
+ghost use Rattle.std.specs.Prelude.{◌≡◌, cond, not, ◌++◌, map, suc, ◌%◌, ◌≤◌, ◌<◌, ◌^◌, length, drop};
 ghost use Rattle.fields.specs.Parts.{job_steps, job_rows, coefficient_count};
 ghost use Rattle.fields.specs.Grammar.{most_sizes, most_rows};
-ghost use Rattle.fields.specs.Record.{steps_in, StepsWithin, JobRead, row_in};
+ghost use Rattle.fields.specs.Record.{steps_in, row_in};
 ghost use Rattle.chains.specs.Chain.{TablesPass};
 ghost use Rattle.chains.specs.Judge.{plain, Judged};
 ghost use Rattle.jobs.specs.Job.{fields_in, row_images, row_scale, rows_images};
 ghost use Rattle.jobs.specs.JudgeRows.{judge_row, in_row, judge_rows};
 ghost use Rattle.jobs.specs.Kinds.{rows_fit};
 
+use crate::read::ReadJob;
 use chains::{LIST_PLACES, Refused, SizeList};
-use fields::{JobParts, JobRow, JobSteps, MOST_ROWS, MOST_SIZES};
+use fields::{JobRow, JobSteps, MOST_ROWS, MOST_SIZES};
 use refusals::Refusal;
 use tables::MOST_ENTRIES;
 
@@ -30,8 +31,7 @@ fn judge_row(
     working: &mut [u64; MOST_ENTRIES],
     list: &mut [u32; LIST_PLACES],
 ) -> Result<(), Refused>
-    requires { StepsWithin steps × (length row.coefficients.now % 4 ≡ 0)
-        × (0 < k → TablesPass (steps_in steps)) × (k < most_rows) }
+    requires { (0 < k → TablesPass (steps_in steps)) × (k < most_rows) }
     ensures { Judged (in_row (suc k) (judge_row (steps_in steps.entry) (row_in row.entry)))
         list.old result list.new }
 {
@@ -44,26 +44,26 @@ fn judge_row(
     };
     let checked = 0 < k;
     chains::judge::judge_list(steps, checked, size_list, working, list).map_err(|refused| Refused {
-        row: (k + 1) as u64,
+        row: Some((k + 1) as u64),
         ..refused
     })
 }
 
 // The rows in order, each in full before the next.
 fn judge_rows(
-    job: &[u8],
-    parts: JobParts<'_>,
+    job: ReadJob<'_>,
     working: &mut [u64; MOST_ENTRIES],
     list: &mut [u32; LIST_PLACES],
 ) -> Result<(), Refused>
-    requires { JobRead job.now parts × (parts.rows ≤ most_rows) }
-    ensures { Judged (judge_rows 0 (job_steps (fields_in job.now)) (job_rows (fields_in job.now)))
+    requires { job.parts.rows ≤ most_rows }
+    ensures { Judged (judge_rows 0 (job_steps (fields_in job.entry.bytes.now))
+        (job_rows (fields_in job.entry.bytes.now)))
         list.old result list.new }
 {
-    let mut rest = job;
-    for k in 0..parts.rows {
+    let mut rest = job.bytes;
+    for k in 0..job.parts.rows {
         let row = fields::rows::next_row(rest);
-        judge_row(parts.steps, row, k, working, list)?;
+        judge_row(job.parts.steps, row, k, working, list)?;
         rest = row.rest;
     }
     Ok(())
@@ -71,25 +71,24 @@ fn judge_rows(
 
 // How many rows and coefficients there are, and then each row.
 pub(crate) fn judge_all(
-    job: &[u8],
-    parts: JobParts<'_>,
+    job: ReadJob<'_>,
     working: &mut [u64; MOST_ENTRIES],
     list: &mut [u32; LIST_PLACES],
 ) -> Result<(), Refused>
-    requires { JobRead job.now parts }
-    ensures { Judged (cond (not (rows_fit parts.entry.rows parts.entry.coefficients)) (plain 21)
-        (judge_rows 0 (job_steps (fields_in job.now)) (job_rows (fields_in job.now))))
+    ensures { Judged (cond (not (rows_fit job.entry.parts.rows job.entry.parts.coefficients)) (plain 21)
+        (judge_rows 0 (job_steps (fields_in job.entry.bytes.now))
+        (job_rows (fields_in job.entry.bytes.now))))
         list.old result list.new }
 {
-    if !rows_fit(parts.rows, parts.coefficients) {
+    if !rows_fit(job.parts.rows, job.parts.coefficients) {
         return Err(Refused::from(Refusal::RowCount));
     }
-    judge_rows(job, parts, working, list)
+    judge_rows(job, working, list)
 }
 
 // The images of a row in the first places of what is left of the image buffer, and its scale.
 fn write_row(steps: JobSteps<'_>, row: JobRow<'_>, images: &mut [u32]) -> u64
-    requires { StepsWithin steps × (length row.coefficients.now % 4 ≡ 0)
+    requires { (length row.coefficients.now % 4 ≡ 0)
         × ((judge_row (steps_in steps) (row_in row)).number ≡ 0)
         × (length (row_in row).coefficients ≤ length images.old) }
     ensures { (result ≡ row_scale (steps_in steps.entry) (row_in row.entry)) × (result < 2 ^ 32)
@@ -100,28 +99,32 @@ fn write_row(steps: JobSteps<'_>, row: JobRow<'_>, images: &mut [u32]) -> u64
     chains::apply::map_list(steps, row.capacity, row.coefficients, &mut images[..n])
 }
 
-// The images of all rows, each behind those of the row before, and their scales.
+// The images of all rows, each behind those of the row before, and their scales. The images go by place, since
+// of a slice that gets shorter from turn to turn no proof says what was written before it. The scales go by
+// place too: a must-fail edit writes one at the place of the images, which a loop over the scales cannot do.
 pub(crate) fn write_rows(
-    job: &[u8],
-    parts: JobParts<'_>,
+    job: ReadJob<'_>,
     images: &mut [u32; MOST_SIZES],
     scales: &mut [u32; MOST_ROWS],
 )
-    requires { JobRead job.now parts × (parts.rows ≤ most_rows) × (parts.coefficients ≤ most_sizes)
-        × ((judge_rows 0 (job_steps (fields_in job.now)) (job_rows (fields_in job.now))).number
+    requires { (job.parts.rows ≤ most_rows) × (job.parts.coefficients ≤ most_sizes)
+        × ((judge_rows 0 (job_steps (fields_in job.bytes.now))
+        (job_rows (fields_in job.bytes.now))).number
         ≡ 0) }
     ensures images { images.new
-        ≡ rows_images (job_steps (fields_in job.now)) (job_rows (fields_in job.now))
-        ++ drop (coefficient_count (job_rows (fields_in job.now))) images.old }
+        ≡ rows_images (job_steps (fields_in job.entry.bytes.now))
+        (job_rows (fields_in job.entry.bytes.now))
+        ++ drop (coefficient_count (job_rows (fields_in job.entry.bytes.now))) images.old }
     ensures scales { scales.new
-        ≡ map (row_scale (job_steps (fields_in job.now))) (job_rows (fields_in job.now))
-        ++ drop (length (job_rows (fields_in job.now))) scales.old }
+        ≡ map (row_scale (job_steps (fields_in job.entry.bytes.now)))
+        (job_rows (fields_in job.entry.bytes.now))
+        ++ drop (length (job_rows (fields_in job.entry.bytes.now))) scales.old }
 {
-    let mut rest = job;
+    let mut rest = job.bytes;
     let mut place = 0;
-    for k in 0..parts.rows {
+    for k in 0..job.parts.rows {
         let row = fields::rows::next_row(rest);
-        scales[k] = write_row(parts.steps, row, &mut images[place..]) as u32;
+        scales[k] = write_row(job.parts.steps, row, &mut images[place..]) as u32;
         place += row.coefficients.len() / 4;
         rest = row.rest;
     }

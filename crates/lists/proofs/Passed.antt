@@ -1,31 +1,24 @@
 -- What the refusals of a counted list leave, and that they are no others.
-use mathlib.Core.Path.{◌≡◌, refl, ap, subst, sym}
-use mathlib.Core.Bool.{Bool, not, ◌&&◌, ◌||◌}
-use mathlib.Core.List.{List, [], ◌∷◌}
+use mathlib.Core.Path.{◌≡◌, subst, sym}
+use mathlib.Core.Bool.{not, ◌||◌}
+use mathlib.Core.List.{List}
 use mathlib.Core.Logic.{◌⊎◌, inl, inr}
 use Prim.Native.Nat.{ℕ}
 use native.Mathlib.Omega.{arith}
 use borrow.Author.Tests.{not-false, ltb-false, eqb-true}
 use lib.Dec.{ltb, eqb}
 use lib.ListN.{length}
-use Rattle.std.specs.List.{list_all}
-use Rattle.functions.proofs.Cases.{not_refused, neither}
+use Rattle.std.proofs.lemmas.Bool.{or_parts}
+use Rattle.functions.proofs.Cases.{not_refused}
 use Rattle.fields.specs.Grammar.{most_sizes}
-use Rattle.chains.specs.Sizes.{each}
 use Rattle.lists.specs.Counted.{counted_refusal, CountedList}
-
--- the definition's test of each number is the library's
-pub each_is_all : (test : ℕ → Bool) (xs : List ℕ) → each test xs ≡ list_all test xs
-unfolding each
-each_is_all test [] = refl
-each_is_all test (x ∷ xs) = ap (λ (rest : Bool). test x && rest) (each_is_all test xs)
 
 module _ (c : ℕ) (sizes counts : List ℕ) where
   pub counted : counted_refusal c sizes counts ≡ 0 → CountedList c sizes counts
   unfolding counted_refusal
   counted e =
       let six = not_refused (ltb most_sizes (length sizes) || not (eqb (length counts) (length sizes))) 6 _ (omega arith) e in
-      let lengths = neither (ltb most_sizes (length sizes)) (not (eqb (length counts) (length sizes))) six.0 in
+      let lengths = or_parts (ltb most_sizes (length sizes)) (not (eqb (length counts) (length sizes))) six.0 in
       record {
         few = ltb-false most_sizes (length sizes) lengths.0;
         one_each = eqb-true _ _ (not-false _ lengths.1);

@@ -12,12 +12,15 @@ use refusals::Refusal;
 pub use sizes::CountedSizes;
 
 // Whether each size is from 1 to the capacity.
+//
+// `chains` has this test and the next one over the bytes of a job. Each is one `all` of the library, and one
+// function of both would take the conversion as a parameter: no plainer.
 fn sizes_fit(capacity: u64, sizes: &[u32]) -> bool
     ensures { result ≡ sizes_within 1 capacity sizes.now }
 {
     sizes
         .iter()
-        .all(|size| 1 <= *size && u64::from(*size) <= capacity)
+        .all(|size| (1..=capacity).contains(&u64::from(*size)))
 }
 
 // Whether each count is 1 or more.
@@ -38,10 +41,7 @@ pub fn counted<'a>(
     ensures list { IfOk result (λ l. (l.capacity ≡ capacity) × (l.sizes.now ≡ sizes.now)
         × (l.counts.now ≡ counts.now)) }
 {
-    if fields::MOST_SIZES < sizes.len() {
-        return Err(Refusal::ListLength);
-    }
-    if counts.len() != sizes.len() {
+    if fields::MOST_SIZES < sizes.len() || counts.len() != sizes.len() {
         return Err(Refusal::ListLength);
     }
     if !sizes_fit(capacity, sizes) {

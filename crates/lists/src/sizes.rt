@@ -1,4 +1,4 @@
-// A list of sizes with a count for each that is accepted at a capacity.
+// A list of sizes with a count for each that is accepted at a capacity: two slices, as C lends them.
 ghost use Rattle.lists.specs.Counted.{CountedList};
 
 #[derive(Clone, Copy)]

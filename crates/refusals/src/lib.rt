@@ -2,7 +2,7 @@
 #![tactic(auto)]
 
 ghost use Rattle.std.specs.Prelude.{◌≡◌};
-ghost use Rattle.refusals.specs.Number.{number_of, number_in};
+ghost use Rattle.refusals.specs.Number.{number_of};
 
 // Each refusal has its number as its discriminant.
 #[derive(Clone, Copy, Debug, PartialEq, Eq)]
@@ -36,20 +36,10 @@ pub enum Refusal {
     TooManyCopies = 24,
 }
 
-impl Refusal {
-    pub fn number(self) -> u64
-        ensures { result ≡ number_of self }
-    {
-        self as u64
-    }
-}
+impl From<Refusal> for u64 {
+    ghost from_gives = { λ refusal number. number ≡ number_of refusal };
 
-// The number of an outcome: 0 where nothing is refused.
-pub fn number_in<T: Copy>(outcome: Result<T, Refusal>) -> u64
-    ensures { result ≡ number_in outcome }
-{
-    match outcome {
-        Ok(_) => 0,
-        Err(refusal) => refusal.number(),
+    fn from(refusal: Refusal) -> u64 {
+        refusal as u64
     }
 }

@@ -56,7 +56,6 @@ module _ (job images₀ working₀ list₀ scales₀ blocks₀ : List ℕ) (lent
         let held : list ≡ (handed_over job).list ++ drop (length (handed_over job).list) list₀ = list-so ∙ ap (λ (p : Places). list_after_job job p list₀) places in
         record {
           printable = record {
-            kind_there = λ zero. absurd (some (sym number ∙ zero));
             images_there = omega arith;
             list_there = rw held parts.0;
             images_most = omega (arith, lent);
@@ -105,7 +104,6 @@ module _ (job images₀ working₀ list₀ scales₀ blocks₀ : List ℕ) (lent
       held_blocks =
           record {
             is_complete = accepted.is_complete;
-            kind_is = fourth_is;
             more_floors = drop (length (job_block_floors (fields_in job))) blocks₀;
             floors_held = blocks-so ∙ ap (λ (p : Places). blocks_after job p blocks₀) places ∙ rw (eq-eqb (handed_over job).number 0 none) refl;
           }
@@ -120,7 +118,6 @@ module _ (job images₀ working₀ list₀ scales₀ blocks₀ : List ℕ) (lent
           let parts = first_part (job_images (fields_in job)) (drop (job_count (fields_in job)) images₀) answer.n count in
           record {
             printable = record {
-              kind_there = λ zero. (accepted_kind job least none).room;
               images_there = rw passed_images parts.0;
               list_there = omega arith;
               images_most = omega (arith, lent);

@@ -10,25 +10,28 @@ use lib.ListN.{length, take, length-append}
 use lib.Seq.{take_at}
 use Rattle.fields.specs.Grammar.{floor_kind}
 use Rattle.fields.specs.Parts.{blocks_there}
-use Rattle.fields.specs.Record.{BlocksOf}
+use Rattle.fields.specs.Record.{BlocksOf, PartsOf}
+use Rattle.fields.specs.declared.JobParts.{JobParts}
 use Rattle.fields.proofs.Filling.{blocks_count}
 use Rattle.jobs.specs.Job.{fields_in, is_divided, job_block_floors}
 use Rattle.jobs.proofs.Finishing.{floor_divided, cut_undivided, floors_count}
-use Rattle.report.specs.Text.{fourth_byte}
 use Rattle.report.specs.Answer.{BlocksHeld}
 
-module _ (job blocks : List ℕ) (h : BlocksHeld job blocks) where
-  pub no_floor : (fourth_byte job ≡ floor_kind → ⊥) → is_divided (fields_in job) ≡ false
-  no_floor other = cut_undivided (fields_in job) (λ one. other (sym h.kind_is ∙ one))
+module _ (job blocks : List ℕ) (h : BlocksHeld job blocks) {parts : JobParts} (read : PartsOf (fields_in job) parts) where
+  pub no_floor : (parts.kind ≡ floor_kind → ⊥) → is_divided (fields_in job) ≡ false
+  no_floor other = cut_undivided (fields_in job) (λ one. other (read.kind_is ∙ one))
 
-  module _ (kind : fourth_byte job ≡ floor_kind) where
+  module _ (kind : parts.kind ≡ floor_kind) where
     division_is : is_divided (fields_in job) ≡ blocks_there (fields_in job)
-    division_is = floor_divided (fields_in job) (h.kind_is ∙ kind)
+    division_is = floor_divided (fields_in job) (sym read.kind_is ∙ kind)
 
-    pub undivided : BlocksOf (fields_in job) None → is_divided (fields_in job) ≡ false
-    undivided none = division_is ∙ none.1
+    pub undivided : parts.blocks ≡ None → is_divided (fields_in job) ≡ false
+    undivided none = division_is ∙ (rw none at read.blocks_are).1
 
-    module _ (numbers : Bor (List ℕ)) (there : BlocksOf (fields_in job) (Some numbers)) where
+    module _ (numbers : Bor (List ℕ)) (some : parts.blocks ≡ Some numbers) where
+      there : BlocksOf (fields_in job) (Some numbers)
+      there = rw some at read.blocks_are
+
       pub divided : is_divided (fields_in job) ≡ true
       divided = division_is ∙ there.2
 

@@ -1,4 +1,5 @@
 -- How long a text is.
+use Rattle.std.proofs.lemmas.Bool.{cases_lt}
 use mathlib.Core.Path.{◌≡◌, ap, ◌∙◌}
 use mathlib.Core.Logic.{◌⊎◌, inl, inr}
 use mathlib.Core.Bool.{Bool, true, false, cond}
@@ -18,12 +19,11 @@ use Rattle.jobs.specs.declared.JobAnswer.{JobAnswer}
 use Rattle.jobs.proofs.Writing.{row_count}
 use Rattle.report.specs.Text.{most_digits, digits, decimal, values_text, line, floor_word, sum_word, scale_word, images_word, blocks_word, refused_word, list_word, floor_text, cut_text, accepted_text, blocks_text, rows_text, row_values, refused_text, most_text}
 use Rattle.report.specs.Answer.{refusal_of}
-use Rattle.functions.proofs.Cases.{lt_or_ge}
 
 digits_short : (j k n : ℕ) → n < 10 ^ suc k → length (digits j n) ≤ suc k
 unfolding digits
 digits_short zero k n l = omega arith
-digits_short (suc j) k n l = go (lt_or_ge n 10) k l (λ k. digits_short j k (n / 10))
+digits_short (suc j) k n l = go (cases_lt n 10) k l (λ k. digits_short j k (n / 10))
   where
     go : (n < 10) ⊎ (10 ≤ n) → (k : ℕ) → n < 10 ^ suc k → ((k : ℕ) → n / 10 < 10 ^ suc k → length (digits j (n / 10)) ≤ suc k) → length (digits (suc j) n) ≤ suc k
     go (inl one) k l before = rw (lt-ltb n 10 one) (omega arith)

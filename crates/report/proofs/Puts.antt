@@ -1,13 +1,13 @@
 -- Bytes put into a buffer one after the other.
+use Rattle.std.proofs.lemmas.Bool.{cases_lt}
 use mathlib.Core.Path.{◌≡◌, refl, ap, sym, ◌∙◌}
 use mathlib.Core.Logic.{◌⊎◌, inl, inr}
 use mathlib.Core.List.{List, [], ◌∷◌, ◌++◌}
-use Prim.Native.Nat.{ℕ, zero, suc, ◌+◌, ◌≤◌, ◌<◌, min}
-use native.Mathlib.Numerals.{add-one}
+use Prim.Native.Nat.{ℕ, zero, suc, ◌+◌, ◌-◌, ◌≤◌, ◌<◌, min}
 use native.Mathlib.Omega.{arith}
-use lib.ListN.{length, get_or, take, drop, set, length-set, length-append}
-use lib.Seq.{set_out, take-suc, take_all}
-use Rattle.functions.proofs.Cases.{lt_or_ge}
+use lib.ListN.{length, take, drop, set, length-set, length-append}
+use lib.Seq.{set_out}
+use borrow.Rule.Slice.PartMut.{put_mid}
 use Rattle.report.specs.Put.{stored, Put}
 
 stored_length : (out : List ℕ) (at : ℕ) (bytes : List ℕ) → length (stored out at bytes) ≡ length out
@@ -52,7 +52,7 @@ pub put_full : (old : List ℕ) (at b : ℕ) → at ≤ length old → length ol
 put_full old at b l m = record { holds = sym (stored_behind old at (b ∷ []) m); next_is = omega arith }
 
 module _ {old bytes new : List ℕ} {at next : ℕ} (p : Put old at bytes new next) where
-  pub put_length : length new ≡ length old
+  put_length : length new ≡ length old
   put_length = ap length p.holds ∙ stored_length old at bytes
 
   pub put_within : next ≤ length new
@@ -61,7 +61,7 @@ module _ {old bytes new : List ℕ} {at next : ℕ} (p : Put old at bytes new ne
   pub put_then : {more last : List ℕ} {end : ℕ} → Put new next more last end → Put old at (bytes ++ more) last end
   put_then {more} {last} {end} q =
       record {
-        holds = q.holds ∙ ap (λ (o : List ℕ). stored o next more) p.holds ∙ behind (lt_or_ge (at + length bytes) (length old)) ∙ sym (stored_append old at bytes more);
+        holds = q.holds ∙ ap (λ (o : List ℕ). stored o next more) p.holds ∙ behind (cases_lt (at + length bytes) (length old)) ∙ sym (stored_append old at bytes more);
         next_is = q.next_is ∙ simp length-append (omega (arith, p.next_is, put_length));
       }
     where
@@ -71,19 +71,15 @@ module _ {old bytes new : List ℕ} {at next : ℕ} (p : Put old at bytes new ne
           stored_behind _ next more (omega (arith, p.next_is, stored_length old at bytes))
           ∙ sym (stored_behind _ (at + length bytes) more (omega (arith, stored_length old at bytes)))
 
--- a loop puts one byte after the other
-pub put_next : {old out new : List ℕ} {at next end : ℕ} (bytes : List ℕ) (i : ℕ) → Put old at (take i bytes) out next → i < length bytes → Put out next (get_or bytes i 0 ∷ []) new end → Put old at (take (i + 1) bytes) new end
-put_next bytes i p l q = rw (add-one i, take-suc bytes i 0 l) (put_then p q)
+-- bytes that are copied at once, as far as they fit
+stored_part : (old bytes : List ℕ) (at n : ℕ) → at ≤ length old → n ≡ min (length bytes) (length old - at) → stored old at bytes ≡ take at old ++ (take n bytes ++ drop n (drop at old))
+stored_part old bytes zero n l e = stored_whole old bytes n (omega (arith, e))
+stored_part [] bytes (suc at) n l e = absurd (omega arith)
+stored_part (x ∷ old) bytes (suc at) n l e = stored_cons x old at bytes ∙ ap (λ (o : List ℕ). x ∷ o) (stored_part old bytes at n (omega arith) (omega (arith, e)))
 
-pub put_all : {old out : List ℕ} {at next : ℕ} (bytes : List ℕ) (i : ℕ) → Put old at (take i bytes) out next → length bytes ≤ i → Put old at bytes out next
-put_all bytes i p l = rw (take_all i bytes l) at p
+pub put_part : (old bytes : List ℕ) (at n k : ℕ) → at ≤ length old → n ≡ min (length bytes) (length old - at) → k ≡ n → Put old at bytes (put_mid at k old (take n bytes)) (at + n)
+put_part old bytes at n k l e same = record { holds = rw same (sym (stored_part old bytes at n l e)); next_is = omega (arith, e) }
 
 -- a buffer into which a text was put from its start on
 pub put_whole : {old text new : List ℕ} {r : ℕ} → Put old 0 text new r → new ≡ take r text ++ drop r old
 put_whole {old} {text} {new} {r} p = p.holds ∙ stored_whole old text r (p.next_is ∙ omega arith)
-
--- a place behind the end has the default
-pub behind_end : (l : List ℕ) (i : ℕ) → length l ≤ i → get_or l i 0 ≡ 0
-behind_end [] i h = refl
-behind_end (x ∷ l) zero h = absurd (omega arith)
-behind_end (x ∷ l) (suc i) h = behind_end l i (omega arith)

@@ -4,7 +4,7 @@ use mathlib.Core.List.{List, [], ◌∷◌, ◌++◌, append_assoc, append-nil}
 use Prim.Native.Nat.{ℕ, ◌+◌, ◌≤◌, ◌<◌}
 use native.Mathlib.Numerals.{add-one}
 use lib.ListN.{length, get_or, take}
-use lib.Seq.{take-suc, take_all}
+use lib.Seq.{take-suc}
 use Rattle.report.specs.Text.{decimal, values_text, line}
 use Rattle.report.specs.Put.{Put}
 use Rattle.report.proofs.Puts.{put_none, put_then}
@@ -25,9 +25,6 @@ values_none old at l = put_none old at l
 pub values_next : {old out new : List ℕ} {at next end : ℕ} (values : List ℕ) (i : ℕ) → Put old at (values_text (take i values)) out next → i < length values → Put out next (32 ∷ decimal (get_or values i 0)) new end → Put old at (values_text (take (i + 1) values)) new end
 values_next values i p l q =
     rw (add-one i, take-suc values i 0 l, values_append (take i values) (get_or values i 0 ∷ []), values_one (get_or values i 0)) (put_then p q)
-
-pub values_all : {old out : List ℕ} {at next : ℕ} (values : List ℕ) (i : ℕ) → Put old at (values_text (take i values)) out next → length values ≤ i → Put old at (values_text values) out next
-values_all values i p l = rw (take_all i values l) at p
 
 -- a line in three puts
 pub line_put : {old a b new : List ℕ} {at i j end : ℕ} (word values : List ℕ) → Put old at word a i → Put a i (values_text values) b j → Put b j (10 ∷ []) new end → Put old at (line word values) new end

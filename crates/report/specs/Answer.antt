@@ -1,7 +1,7 @@
 -- What the functions that print an answer ask and leave. The kind that an accepted job has is its fourth byte.
-use Rattle.std.specs.Prelude.{cond, ◌≡◌, List, ◌++◌, map, ℕ, ◌-◌, ◌≤◌, ◌<◌, eqb, length, take}
+use Rattle.std.specs.Prelude.{cond, ◌≡◌, List, ◌++◌, map, ℕ, ◌-◌, ◌≤◌, eqb, length, take}
 use Rattle.tables.specs.Check.{most_entries}
-use Rattle.fields.specs.Parts.{job_kind, job_steps, job_rows, coefficient_count}
+use Rattle.fields.specs.Parts.{job_steps, job_rows, coefficient_count}
 use Rattle.fields.specs.Grammar.{most_sizes, most_rows, most_blocks, rows_kind}
 use Rattle.fields.specs.Reading.{complete, job_fields}
 use Rattle.chains.specs.Judge.{Judgement}
@@ -31,13 +31,11 @@ pub record RowsHeld (job images scales : List ℕ) : Type 0 where
 -- the buffer holds the floors of the job's blocks, and something behind them
 pub record BlocksHeld (job blocks : List ℕ) : Type 0 where
   pub is_complete : job_fields job ≡ complete (fields_in job)
-  pub kind_is : job_kind (fields_in job) ≡ fourth_byte job
   pub more_floors : List ℕ
   pub floors_held : blocks ≡ job_block_floors (fields_in job) ++ more_floors
 
--- the job has the byte, and the buffers the places, that are printed of an answer
+-- the buffers have the places that are printed of an answer
 pub record Printable (job : List ℕ) (answer : JobAnswer) (images list scales blocks : List ℕ) : Type 0 where
-  pub kind_there : answer.number ≡ 0 → 3 < length job
   pub images_there : answer.n ≤ length images
   pub list_there : answer.length ≤ length list
   pub images_most : length images ≤ most_sizes

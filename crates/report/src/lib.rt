@@ -8,7 +8,8 @@ ghost use Rattle.std.specs.Prelude.{◌≡◌, ◌++◌, ◌≤◌, min, length,
 ghost use Rattle.report.specs.Text.{hand_over_text, most_text};
 ghost use Rattle.report.specs.Answer.{Lent, TextPut};
 
-// The text of a job's answer, into `out` from its start on.
+// The text of a job's answer, into `out` from its start on. It says what a caller of the operation is told, so it
+// is made of the answer that a caller gets.
 fn answer_text(
     job: &[u8],
     images: &mut [u32],

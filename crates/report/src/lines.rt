@@ -1,8 +1,9 @@
-// The lines of a text: a word, values with one space before each, and the line's end. The kind is the byte
-// that the job has it in, as the definition of the text reads it.
+// The lines of a text: a word, values with one space before each, and the line's end. The kind is read
+// from its byte of the job, as the definition of the text has it.
 ghost use Rattle.std.specs.Prelude.{◌≡◌, [], ◌∷◌, ◌++◌, ◌≤◌, length};
 ghost use Rattle.fields.specs.Parts.{job_steps, job_rows};
-ghost use Rattle.fields.specs.Record.{Stand};
+ghost use Rattle.fields.specs.Reading.{complete, job_fields};
+ghost use Rattle.fields.specs.Record.{JobRead};
 ghost use Rattle.jobs.specs.Job.{fields_in, is_divided, job_block_floors};
 ghost use Rattle.report.specs.Text.{
   values_text,
@@ -21,6 +22,10 @@ ghost use Rattle.report.specs.Put.{Put};
 ghost use Rattle.report.specs.Answer.{RowsHeld, BlocksHeld, Printable, refusal_of, answer_text, TextPut};
 
 use crate::put;
+use refusals::Refusal;
+
+// The refusal that has a list.
+const WITH_LIST: u64 = Refusal::Overshoots as u64;
 
 fn put_number_line(out: &mut [u8], at: usize, word: &[u8], n: u64) -> usize
     requires { at ≤ length out.old }
@@ -44,11 +49,11 @@ fn put_list_line(out: &mut [u8], at: usize, word: &[u8], values: &[u32]) -> usiz
 fn put_floor(out: &mut [u8], kind: u8, answer: jobs::JobAnswer) -> usize
     ensures { Put out.old 0 (floor_text kind answer) out.new result }
 {
-    if kind != 1 {
-        return 0;
+    if kind == fields::FLOOR_KIND {
+        let next = put_number_line(out, 0, b"floor", answer.floor);
+        return put_number_line(out, next, b"sum", answer.sum);
     }
-    let next = put_number_line(out, 0, b"floor", answer.floor);
-    put_number_line(out, next, b"sum", answer.sum)
+    0
 }
 
 // A cut: its scale and its images.
@@ -63,24 +68,31 @@ fn put_cut(out: &mut [u8], at: usize, scale: u64, images: &[u32]) -> usize
 fn put_accepted(out: &mut [u8], kind: u8, answer: jobs::JobAnswer, images: &[u32]) -> usize
     ensures { Put out.old 0 (accepted_text kind answer images.now) out.new result }
 {
-    let scale = answer.scale;
     let next = put_floor(out, kind, answer);
-    put_cut(out, next, scale, images)
+    put_cut(out, next, answer.scale, images)
 }
 
-// The floors of the blocks of a list that is divided. How many there are is read from the job's fields
-// again; only a floor job has blocks.
-fn put_blocks(out: &mut [u8], at: usize, job: &[u8], kind: u8, blocks: &[u32]) -> usize
-    requires { (at ≤ length out.old) × BlocksHeld job.now blocks.now × (kind ≡ fourth_byte job.now) }
-    ensures { Put out.old at (blocks_text (is_divided (fields_in job.now))
-        (job_block_floors (fields_in job.now))) out.new result }
+// The parts of an accepted job, read again since its answer does not have them.
+fn accepted_parts(job: &[u8]) -> fields::JobParts<'_>
+    requires { job_fields job.now ≡ complete (fields_in job.now) }
+    ensures { JobRead job.now result }
 {
-    if kind != fields::FLOOR_KIND {
-        return at;
-    }
     let Ok(parts) = fields::read_job(job) else {
         unreachable!()
     };
+    parts
+}
+
+// The floors of the blocks of a list that is divided. Only a floor job has blocks.
+fn put_blocks(out: &mut [u8], at: usize, job: &[u8], blocks: &[u32]) -> usize
+    requires { (at ≤ length out.old) × BlocksHeld job.now blocks.now }
+    ensures { Put out.old at (blocks_text (is_divided (fields_in job.now))
+        (job_block_floors (fields_in job.now))) out.new result }
+{
+    let parts = accepted_parts(job);
+    if parts.kind != fields::FLOOR_KIND {
+        return at;
+    }
     match parts.blocks {
         Some(numbers) => put_list_line(out, at, b"blocks", &blocks[..numbers.len() / 2]),
         None => at,
@@ -88,36 +100,23 @@ fn put_blocks(out: &mut [u8], at: usize, job: &[u8], kind: u8, blocks: &[u32]) -
 }
 
 // The cuts of all rows: each one's images stand behind those of the row before.
-fn put_rows(out: &mut [u8], job: &[u8], rows: usize, images: &[u32], scales: &[u32]) -> usize
-    requires { RowsHeld job.now images.now scales.now
-        × Stand job.now (fields_in job.now) []
-        × (rows ≡ length (job_rows (fields_in job.now))) }
-    ensures { Put out.old 0 (rows_text (job_steps (fields_in job.now))
-        (job_rows (fields_in job.now))) out.new result }
-{
-    let mut rest = job;
-    let mut place = 0;
-    let mut next = 0;
-    for scale in &scales[..rows] {
-        let row = fields::rows::next_row(rest);
-        let end = place + row.coefficients.len() / 4;
-        next = put_cut(out, next, u64::from(*scale), &images[place..end]);
-        place = end;
-        rest = row.rest;
-    }
-    next
-}
-
-// How many rows the job has is read from its fields again.
-fn put_job_rows(out: &mut [u8], job: &[u8], images: &[u32], scales: &[u32]) -> usize
+fn put_rows(out: &mut [u8], job: &[u8], images: &[u32], scales: &[u32]) -> usize
     requires { RowsHeld job.now images.now scales.now }
     ensures { Put out.old 0 (rows_text (job_steps (fields_in job.now))
         (job_rows (fields_in job.now))) out.new result }
 {
-    let Ok(parts) = fields::read_job(job) else {
-        unreachable!()
-    };
-    put_rows(out, job, parts.rows, images, scales)
+    let rows = accepted_parts(job).rows;
+    let mut rest = job;
+    let mut left = images;
+    let mut next = 0;
+    for scale in &scales[..rows] {
+        let row = fields::rows::next_row(rest);
+        let (own, behind) = left.split_at(row.coefficients.len() / 4);
+        next = put_cut(out, next, u64::from(*scale), own);
+        left = behind;
+        rest = row.rest;
+    }
+    next
 }
 
 // A refusal's row, where the fourth byte is the kind of rows.
@@ -147,13 +146,11 @@ fn put_refused(out: &mut [u8], fourth: u8, answer: jobs::JobAnswer, list: &[u32]
     ensures { Put out.old 0 (refused_text fourth (refusal_of answer list.now))
         out.new result }
 {
-    let number = answer.number;
-    let length = answer.length as usize;
     let next = put_refused_line(out, fourth, answer);
-    if number != 11 {
+    if answer.number != WITH_LIST {
         return next;
     }
-    put_list_line(out, next, b"list", &list[..length])
+    put_list_line(out, next, b"list", &list[..answer.length as usize])
 }
 
 // The fourth byte of a job, 0 where it is shorter.
@@ -183,9 +180,9 @@ pub(crate) fn put_answer(
         return put_refused(out, fourth, answer, list);
     }
     if fourth == fields::ROWS_KIND {
-        return put_job_rows(out, job, images, scales);
+        return put_rows(out, job, images, scales);
     }
     let n = answer.n as usize;
     let next = put_accepted(out, fourth, answer, &images[..n]);
-    put_blocks(out, next, job, fourth, blocks)
+    put_blocks(out, next, job, blocks)
 }

@@ -22,11 +22,10 @@ pub(crate) fn put_bytes(out: &mut [u8], at: usize, bytes: &[u8]) -> usize
     requires { at ≤ length out.old }
     ensures { Put out.old at bytes.now out.new result }
 {
-    let mut next = at;
-    for byte in bytes {
-        next = put_byte(out, next, *byte);
-    }
-    next
+    let count = bytes.len().min(out.len() - at);
+    let end = at + count;
+    out[at..end].copy_from_slice(&bytes[..count]);
+    end
 }
 
 // One space and the number.

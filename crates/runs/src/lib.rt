@@ -23,11 +23,12 @@ fn put_each<T, F: Fn(&mut Numbers<'_>, &mut [T])>(
     requires forward { ReadsForward (F.post put) }
     ensures { length numbers.new ≤ length numbers.old }
 {
-    let mut from = 0;
+    let mut left = places;
     for _ in 0..runs {
-        let end = from + buffers::at_most(numbers.next_number(), places.len() - from);
-        put(numbers, &mut places[from..end]);
-        from = end;
+        let count = buffers::at_most(numbers.next_number(), left.len());
+        let (run, behind) = left.split_at_mut(count);
+        put(numbers, run);
+        left = behind;
     }
 }
 
@@ -44,9 +45,8 @@ pub fn put_runs<'a, T, F: Fn(&mut Numbers<'_>, &mut [T])>(
     ensures onward { 0 < length numbers.old → length numbers.new < length numbers.old }
 {
     let [n, k] = numbers.next_numbers::<2>();
-    let size = buffers::at_most(n, buffer.len());
     let runs = buffers::at_most(k, buffer.len());
-    let list = &mut buffer[..size];
+    let list = buffers::front(buffer, n);
     put_each(numbers, list, runs, put);
     list
 }

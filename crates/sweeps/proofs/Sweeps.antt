@@ -1,5 +1,5 @@
 -- The sweep: the best parameter so far, turn by turn, and the safety of the largest floor.
-use Rattle.std.specs.Prelude.{Option, Some, None, IfSome, ok_or}
+use Rattle.std.specs.Prelude.{Option, Some, None, IfSome, Result, Ok, Err, IfOk, MatchResult}
 use mathlib.Core.Path.{◌≡◌, subst, refl, ap, sym, ◌∙◌}
 use mathlib.Core.Bool.{Bool, true, false, cond, not, ◌&&◌, ◌||◌, false≢true}
 use mathlib.Core.List.{List, [], ◌∷◌, ◌++◌, map, append-nil}
@@ -11,21 +11,24 @@ use native.Mathlib.Omega.{arith}
 use borrow.Author.Tests.{ltb-false, eqb-true, eq-eqb, ne_eqb}
 use lib.Dec.{leb, ltb, eqb}
 use lib.ListN.{length}
+use Rattle.std.proofs.lemmas.Bool.{cases_lt, or_parts}
+use Rattle.std.proofs.lemmas.List.{map-append}
 use Rattle.functions.specs.Words.{limit, capacity_fits, most_count, EachWithin}
 use Rattle.functions.specs.Families.{◌up◌, family_scale}
 use Rattle.functions.specs.Image.{family_refusal}
 use Rattle.functions.specs.Summed.{Carriable}
-use Rattle.functions.proofs.Cases.{lt_or_ge, not_refused, neither, of_both, then_zero}
+use Rattle.functions.proofs.Cases.{not_refused, of_both, then_zero}
 use Rattle.functions.proofs.Legal.{passed, capacity_bounds}
-use Rattle.functions.proofs.Mapped.{map_append}
 use Rattle.fields.specs.Parts.{on_family}
 use Rattle.chains.specs.Chain.{step_image, step_scale, step_refusal, chain_image, chain_scale, ChainAccepted, chain_floor}
 use Rattle.jobs.specs.Packing.{copies, Fits, bins_used}
 use Rattle.lists.specs.Counted.{counted_refusal, CountedList}
 use Rattle.lists.proofs.Passed.{counted, of_counted}
 use Rattle.sweeps.specs.Sweep.{widest, range_refusal, sweep_refusal, sweep_floor, passes, passing, largest, first_with, refused_sweep, best_of, sweep_answer}
-use Rattle.refusals.specs.declared.Refusal.TheVariants.{NoParameterPasses}
-use Rattle.sweeps.specs.Progress.{SumAt, Better, SweptTo, floors, answer_of, told}
+use Rattle.refusals.specs.Number.{number_of, number_in}
+use Rattle.refusals.specs.declared.Refusal.{Refusal}
+use Rattle.refusals.proofs.Numbers.{number_positive}
+use Rattle.sweeps.specs.Progress.{SumAt, Better, SweptTo, floors, found, told}
 use Rattle.sweeps.specs.declared.SweepAnswer.{SweepAnswer}
 use Rattle.sweeps.specs.declared.sweep.Best.{Best}
 use Rattle.sweeps.specs.declared.sweep.Sweep.{Sweep}
@@ -40,7 +43,7 @@ largest_append (x ∷ xs) ys = omega (arith, largest_append xs ys)
 
 module _ (f : ℕ → ℕ) where
   largest_more : (ps qs : List ℕ) → largest (map f (ps ++ qs)) ≡ max (largest (map f ps)) (largest (map f qs))
-  largest_more ps qs = ap largest (map_append f ps qs) ∙ largest_append (map f ps) (map f qs)
+  largest_more ps qs = ap largest (map-append f ps qs) ∙ largest_append (map f ps) (map f qs)
 
   largest_one : (p : ℕ) → largest (map f (p ∷ [])) ≡ f p
   unfolding largest
@@ -54,7 +57,7 @@ module _ (f : ℕ → ℕ) where
   largest_reached : (p : ℕ) (ps : List ℕ) → Reaches (largest (map f (p ∷ ps))) (p ∷ ps)
   unfolding Reaches largest
   largest_reached p [] = inl (omega arith)
-  largest_reached p (q ∷ ps) = go (largest_reached q ps) (lt_or_ge (f p) (largest (map f (q ∷ ps))))
+  largest_reached p (q ∷ ps) = go (largest_reached q ps) (cases_lt (f p) (largest (map f (q ∷ ps))))
     where
       go : Reaches (largest (map f (q ∷ ps))) (q ∷ ps) → (f p < largest (map f (q ∷ ps))) ⊎ (largest (map f (q ∷ ps)) ≤ f p) → Reaches (max (f p) (largest (map f (q ∷ ps)))) (p ∷ q ∷ ps)
       go later (inl less) =
@@ -199,7 +202,7 @@ module _ (c family : ℕ) (sizes counts : List ℕ) (low high : ℕ) where
       let one = passed (capacity_fits c) 1 _ (omega arith) e in
       let two = passed (leb 1 family && leb family 5) 2 _ (omega arith) one.1 in
       let both = then_zero (counted_refusal c sizes counts) (range_refusal low high) two.1 in
-      let nineteen = neither (ltb high low) (ltb widest (high - low)) (not_refused _ 19 0 (omega arith) both.1).0 in
+      let nineteen = or_parts (ltb high low) (ltb widest (high - low)) (not_refused _ 19 0 (omega arith) both.1).0 in
       let capacity = capacity_bounds c one.0 in
       record {
         capacity_positive = capacity.0;
@@ -230,6 +233,13 @@ module _ (c family : ℕ) (sizes counts : List ℕ) (low high : ℕ) where
   unfolding sweep_answer
   sweep_accepted none = rw none
 
+  -- what is told of an accepted sweep and of a refused one
+  pub sweep_told : (sweep : Result Sweep Refusal) (best : Result Best Refusal) → number_in sweep ≡ sweep_refusal c family sizes counts low high → IfOk sweep (λ s. (s.list.capacity ≡ c) × (s.family ≡ family) × (s.list.sizes.now ≡ sizes) × (s.list.counts.now ≡ counts) × (s.low ≡ low) × (s.high ≡ high)) → MatchResult sweep (λ s. told best ≡ best_of (floors s) (passing s.list.capacity s.family s.low (suc (s.high - s.low)))) (λ refusal. best ≡ Err refusal) → told best ≡ sweep_answer c family sizes counts low high
+  sweep_told (Ok sweep) best number same is =
+      rw (same.0, same.1, same.2, same.3, same.4, same.5) at is ∙ sym (sweep_accepted (sym number))
+  sweep_told (Err refusal) best number same is =
+      rw (is, number) (sym (sweep_refused (λ none. omega (arith, number ∙ none, number_positive refusal))))
+
   module _ (bins : List ℕ) (fits : Fits c (copies counts sizes) bins) where
     one_step : SweepFine c sizes counts low high → (p : ℕ) → passes c family p ≡ true → sweep_floor c family sizes counts p ≤ bins_used bins
     unfolding passes sweep_floor ChainAccepted
@@ -243,7 +253,7 @@ module _ (c family : ℕ) (sizes counts : List ℕ) (low high : ℕ) where
         (λ some. rw (sweep_refused (omega arith)) zero-le)
         (eq-zero-or-pos (sweep_refusal c family sizes counts low high))
 
--- what is told of a range that none passes, and of a best parameter
-pub told_is : (best : Option Best) → told (ok_or best NoParameterPasses) ≡ answer_of best
-told_is None = refl
-told_is (Some best) = refl
+-- the answer of an outcome
+pub told_is : (best : Result Best Refusal) (answer : SweepAnswer) → MatchResult best (λ best. answer ≡ found best) (λ refusal. answer ≡ refused_sweep (number_of refusal)) → answer ≡ told best
+told_is (Ok best) answer is = is
+told_is (Err refusal) answer is = is

@@ -6,7 +6,7 @@ use mathlib.Core.Logic.{⊎_elim}
 use Prim.Native.Nat.{ℕ, zero, suc, ◌+◌, ◌-◌, ◌≤◌, ◌<◌}
 use native.Mathlib.Nat.{le_refl, eq-zero-or-pos}
 use native.Mathlib.Omega.{arith}
-use Rattle.functions.proofs.Cases.{lt_or_ge}
+use Rattle.std.proofs.lemmas.Bool.{cases_lt}
 use Rattle.sweeps.specs.Sweep.{sweep_refusal, sweep_floor, passes, passing, refused_sweep, best_of, sweep_answer}
 use Rattle.sweeps.specs.Promise.{Eligible, Largest, NoneEligible}
 use Rattle.sweeps.specs.declared.SweepAnswer.{SweepAnswer}
@@ -31,7 +31,7 @@ module _ (c family : ℕ) (sizes counts : List ℕ) (low : ℕ) where
         ⊎_elim
         (λ less. before (record { least = e.least; most = less; passes_both = e.passes_both }))
         (λ reached. let same : q ≡ end = omega arith in rw same (last (rw same at e.passes_both)))
-        (lt_or_ge q end)
+        (cases_lt q end)
 
     without_last : passes c family end ≡ false → (a : SweepAnswer) → Standing c family sizes counts low end a → Standing c family sizes counts low (suc end) a
     without_last fails a (none h) = none (λ q e. split (λ _. ⊥) q e (h q) (λ holds. false≢true (sym fails ∙ holds)))
@@ -56,7 +56,7 @@ module _ (c family : ℕ) (sizes counts : List ℕ) (low : ℕ) where
             largest_is = λ q e. split (λ q. floors q ≤ floors end) q e (λ before. absurd (h q before)) (λ _. le_refl (floors end));
             least_is = λ q e l. absurd (h q (record { least = e.least; most = l; passes_both = e.passes_both }));
           }))
-      with_last ps a is (some {floor} {p} b) = ⊎_elim more kept (lt_or_ge floor (floors end))
+      with_last ps a is (some {floor} {p} b) = ⊎_elim more kept (cases_lt floor (floors end))
         where
           more : floor < floors end → Standing c family sizes counts low (suc end) (best_of floors (ps ++ (end ∷ [])))
           more l =

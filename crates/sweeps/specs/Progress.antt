@@ -23,12 +23,15 @@ abbrev pub floors : Sweep → ℕ → ℕ
 floors s = sweep_floor s.list.capacity s.family s.list.sizes.now s.list.counts.now
 
 -- the answer for the best parameter, or for none
+abbrev pub found : Best → SweepAnswer
+found best = record { number = 0; floor = best.floor; p = best.p }
+
 abbrev pub answer_of : Option Best → SweepAnswer
 answer_of None = refused_sweep 20
-answer_of (Some best) = record { number = 0; floor = best.floor; p = best.p }
+answer_of (Some best) = found best
 
 abbrev pub told : Result Best Refusal → SweepAnswer
-told (Ok best) = record { number = 0; floor = best.floor; p = best.p }
+told (Ok best) = found best
 told (Err refusal) = refused_sweep (number_of refusal)
 
 -- the better of the best so far and p with its floor

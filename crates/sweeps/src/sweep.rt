@@ -9,7 +9,7 @@ use refusals::Refusal;
 // The most that high is above low.
 const WIDEST: u64 = 4_095;
 
-// A family over a list, and the range of its parameter p.
+// A family, by its byte as C passes it, over a list, and the range of its parameter p.
 #[derive(Clone, Copy)]
 pub(crate) struct Sweep<'a> {
     list: CountedSizes<'a>,
@@ -53,7 +53,7 @@ impl<'a> Sweep<'a> {
     ghost use Rattle.std.specs.Prelude.{IfOk};
     ghost use Rattle.refusals.specs.Number.{number_in};
     ghost use Rattle.sweeps.specs.Sweep.{sweep_refusal, passing, best_of};
-    ghost use Rattle.sweeps.specs.Progress.{SumAt, SumBefore, SweptTo, floors, answer_of};
+    ghost use Rattle.sweeps.specs.Progress.{SumAt, SumBefore, SweptTo, floors, told};
 
     // Refusals 1, 2, those of the list, and 19, in this order.
     #[tactic(auto, unfolding(crate::specs::Sweep::sweep_refusal, crate::specs::Sweep::range_refusal))]
@@ -69,14 +69,12 @@ impl<'a> Sweep<'a> {
         ensures sweep { IfOk result (λ s. (s.list.capacity ≡ capacity) × (s.family ≡ family)
             × (s.list.sizes.now ≡ sizes.now) × (s.list.counts.now ≡ counts.now) × (s.low ≡ low) × (s.high ≡ high)) }
     {
-        if !functions::capacity_fits(capacity) {
-            return Err(Refusal::Capacity);
-        }
-        if family < 1 || 5 < family {
+        functions::accept_capacity(capacity)?;
+        if !(1..=5).contains(&family) {
             return Err(Refusal::Family);
         }
         let list = lists::counted(capacity, sizes, counts)?;
-        if high < low || WIDEST < high - low {
+        if !(low..=low.saturating_add(WIDEST)).contains(&high) {
             return Err(Refusal::ParameterRange);
         }
         Ok(Sweep {
@@ -115,16 +113,13 @@ impl<'a> Sweep<'a> {
                     sum: Some(sum),
                 }
             }
-            Err(_) => Swept {
-                best: swept.best,
-                sum: None,
-            },
+            Err(_) => Swept { sum: None, ..swept },
         }
     }
 
-    // The best parameter of the range, or none where none passes.
-    pub(crate) fn best(self) -> Option<Best>
-        ensures { answer_of result ≡ best_of (floors self.entry)
+    // The best parameter of the range: refusal 20 where none passes.
+    pub(crate) fn best(self) -> Result<Best, Refusal>
+        ensures { told result ≡ best_of (floors self.entry)
             (passing self.entry.list.capacity self.entry.family self.entry.low (suc (self.entry.high - self.entry.low))) }
     {
         let mut swept = Swept {
@@ -135,6 +130,6 @@ impl<'a> Sweep<'a> {
         for offset in 0..=self.high - self.low {
             swept = self.turn(swept, offset);
         }
-        swept.best
+        swept.best.ok_or(Refusal::NoParameterPasses)
     }
 }

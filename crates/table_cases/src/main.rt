@@ -61,9 +61,9 @@ fn run_case<W: Write>(out: &mut W, numbers: &mut Numbers<'_>) -> io::Result<()>
     let mut table = [0u32; MOST_ENTRIES];
     let mut working = [0u64; MOST_PLACES];
     let mut list = [0u32; MOST_PLACES];
-    let table = &mut table[..buffers::at_most(n, MOST_ENTRIES)];
-    let working = &mut working[..buffers::at_most(w, MOST_PLACES)];
-    let list = &mut list[..buffers::at_most(l, MOST_PLACES)];
+    let table = buffers::front(&mut table, n);
+    let working = buffers::front(&mut working, w);
+    let list = buffers::front(&mut list, l);
     make_table(numbers, table);
     check_table(out, table, working, list)
 }

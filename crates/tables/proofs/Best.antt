@@ -1,4 +1,5 @@
 -- best c is the greatest total of images over lists of sizes with total at most c.
+use Rattle.std.proofs.lemmas.Bool.{cases_lt}
 use mathlib.Core.Path.{◌≡◌, refl, ap, sym, ◌∙◌}
 use mathlib.Core.List.{List, [], ◌∷◌, ◌++◌, map}
 use mathlib.Core.Logic.{◌⊎◌, inl, inr, ⊎_elim}
@@ -7,9 +8,8 @@ use native.Mathlib.Nat.{le_refl, eq-zero-or-pos}
 use native.Mathlib.Omega.{arith}
 use lib.ListN.{length, get_or, drop, length-drop}
 use Rattle.functions.specs.Words.{limit, total}
-use Rattle.functions.proofs.Cases.{lt_or_ge}
 use Rattle.functions.proofs.Superadditive.{total_append}
-use Rattle.functions.proofs.Mapped.{map_append}
+use Rattle.std.proofs.lemmas.List.{map-append}
 use Rattle.tables.specs.Table.{entry, greatest_sum, bests, best}
 use Rattle.tables.specs.Check.{TableForm}
 use Rattle.tables.specs.Promise.{Reached}
@@ -33,7 +33,7 @@ sum_reached : (xs bs : List ℕ) → (greatest_sum xs bs ≡ 0) ⊎ Pair xs bs (
 unfolding greatest_sum
 sum_reached [] bs = inl refl
 sum_reached (x ∷ xs) [] = inl refl
-sum_reached (x ∷ xs) (b ∷ bs) = go (lt_or_ge (x + b) (greatest_sum xs bs)) (sum_reached xs bs)
+sum_reached (x ∷ xs) (b ∷ bs) = go (cases_lt (x + b) (greatest_sum xs bs)) (sum_reached xs bs)
   where
     go : (x + b < greatest_sum xs bs) ⊎ (greatest_sum xs bs ≤ x + b) → (greatest_sum xs bs ≡ 0) ⊎ Pair xs bs (greatest_sum xs bs) → (greatest_sum (x ∷ xs) (b ∷ bs) ≡ 0) ⊎ Pair (x ∷ xs) (b ∷ bs) (greatest_sum (x ∷ xs) (b ∷ bs))
     go (inr l) rest = inr (record { place = 0; in_first = omega arith; in_second = omega arith; sum_is = omega arith })
@@ -165,7 +165,7 @@ module _ (t : List ℕ) where
         omega (
           arith,
           best_bounds (a.sizes ++ b.sizes) (y + z) (omega (arith, total_append a.sizes b.sizes, a.fits, b.fits)) m,
-          ap total (map_append (entry t) a.sizes b.sizes),
+          ap total (map-append (entry t) a.sizes b.sizes),
           total_append (map (entry t) a.sizes) (map (entry t) b.sizes),
           a.reaches,
           b.reaches,
@@ -176,7 +176,7 @@ module _ (t : List ℕ) where
     best_halved c m h pos whole pairs = ⊎_elim (λ e. omega arith) first (best_from c)
       where
         first : First c → best t c ≤ m
-        first f = go (lt_or_ge f.size c) (lt_or_ge c (2 * f.size))
+        first f = go (cases_lt f.size c) (cases_lt c (2 * f.size))
           where
             go : (f.size < c) ⊎ (c ≤ f.size) → (c < 2 * f.size) ⊎ (2 * f.size ≤ c) → best t c ≤ m
             go (inr all) k =

@@ -1,18 +1,18 @@
 -- Refusals 6 to 10 as facts on a table and its buffers, and what the crates above need not unfold.
-use mathlib.Core.Path.{◌≡◌, refl, ap, sym}
-use mathlib.Core.Bool.{true, not, ◌&&◌, ◌||◌, and-eq-true_iff}
+use Rattle.std.proofs.lemmas.Bool.{or_parts}
+use mathlib.Core.Path.{◌≡◌, refl, sym}
+use mathlib.Core.Bool.{true, not, ◌||◌, and-eq-true_iff}
 use mathlib.Core.List.{List, [], ◌∷◌}
 use Prim.Native.Nat.{ℕ, zero, suc, ◌-◌, ◌≤◌, ◌<◌}
 use native.Mathlib.Omega.{arith}
 use borrow.Author.Tests.{leb-true, ltb-false, eqb-true, eqb-false, le-leb, le-ltb, eq-eqb, ne_eqb, not-false}
 use lib.Dec.{leb, ltb, eqb}
-use lib.ListN.{length, get_or, drop}
-use lib.Seq.{drop-cons}
+use lib.ListN.{length, get_or}
 use Rattle.std.specs.Prelude.{Result, Ok, Err, OnOk}
 use Rattle.refusals.specs.Number.{number_in}
 use Rattle.refusals.specs.declared.Refusal.{Refusal}
 use Rattle.functions.specs.Words.{limit}
-use Rattle.functions.proofs.Cases.{not_refused, neither, of_both, then_zero}
+use Rattle.functions.proofs.Cases.{not_refused, of_both, then_zero}
 use Rattle.tables.specs.Table.{entry, table_capacity, table_scale}
 use Rattle.tables.specs.Check.{most_entries, within_limit, form_refusal, TableForm, length_refusal, shape_refusal, Passed}
 
@@ -27,10 +27,6 @@ entry_is t x = refl
 pub scale_is_last : (t : List ℕ) → table_scale t ≡ get_or t (length t - 1) 0
 unfolding table_scale table_capacity entry
 scale_is_last t = refl
-
-pub within_next : (t : List ℕ) (i : ℕ) → i < length t → within_limit (drop i t) ≡ leb (get_or t i 0) limit && within_limit (drop (suc i) t)
-unfolding within_limit
-within_next t i l = ap within_limit (drop-cons t i 0 l)
 
 entry_small : (t : List ℕ) → within_limit t ≡ true → (x : ℕ) → entry t x ≤ limit
 unfolding within_limit entry
@@ -83,8 +79,8 @@ module _ (entries working list : ℕ) where
   lengths e =
       let six = not_refused (ltb entries 2 || ltb most_entries entries) 6 _ (omega arith) e in
       let seven = not_refused (ltb working entries || ltb list (entries - 1)) 7 0 (omega arith) six.1 in
-      let size = neither (ltb entries 2) (ltb most_entries entries) six.0 in
-      let room = neither (ltb working entries) (ltb list (entries - 1)) seven.0 in
+      let size = or_parts (ltb entries 2) (ltb most_entries entries) six.0 in
+      let room = or_parts (ltb working entries) (ltb list (entries - 1)) seven.0 in
       record {
         least = ltb-false entries 2 size.0;
         most = ltb-false most_entries entries size.1;

@@ -16,5 +16,5 @@ module _ (t totals : List ℕ) (b : AreBests t totals) where
   known_small j l = omega (arith, b.holds j l, best_most t b.form j, b.in_table, b.form.most)
 
   -- an entry and the best of what it leaves
-  pub entry_sum : (c y : ℕ) → c < length totals → 1 ≤ y → get_or t y 0 + get_or totals (c - y) 0 ≡ entry t y + best t (c - y)
-  entry_sum c y l m = omega (arith, entry_is t y, b.holds (c - y) (omega arith))
+  pub entry_sum : (c y : ℕ) → c < length totals → get_or t y 0 + get_or totals (c - y) 0 ≡ entry t y + best t (c - y)
+  entry_sum c y l = omega (arith, entry_is t y, b.holds (c - y) (omega arith))

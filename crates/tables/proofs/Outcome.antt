@@ -1,5 +1,5 @@
--- The table check's answer and buffers, for each way that it ends.
-use mathlib.Core.Path.{◌≡◌, ap, sym, ◌∙◌}
+-- The table check's answer and buffers, for each way that it ends, and what the operation for C promises of them.
+use mathlib.Core.Path.{◌≡◌, refl, ap, sym, ◌∙◌}
 use mathlib.Core.Bool.{cond}
 use mathlib.Core.List.{List, ◌++◌}
 use mathlib.Core.Logic.{⊎_elim}
@@ -17,12 +17,21 @@ use Rattle.tables.specs.Promise.{Overshoots, AcceptedExactly}
 use Rattle.tables.specs.declared.TableAnswer.{TableAnswer}
 use Rattle.tables.proofs.Entries.{capacity_is, scale_is_last, passed, shape_below}
 use Rattle.tables.proofs.Filled.{all_bests_lem, all_bests_at}
-use Rattle.tables.proofs.Promise.{overshoots, table_promise}
+use Rattle.tables.proofs.Promise.{counterexample_promise, table_promise}
 
 module _ (t w l : List ℕ) where
-  -- the contract's five claims
+  -- the check's three claims, of what it tells and the two buffers
   abbrev pub Outcome : TableAnswer → List ℕ → List ℕ → Type 0
   Outcome r w' l' =
+      record {
+        told : r ≡ table_answer t (length w) (length l);
+        working : w' ≡ working_after t w l;
+        list : l' ≡ list_after t w l;
+      }
+
+  -- the operation's five
+  abbrev pub Answered : TableAnswer → List ℕ → List ℕ → Type 0
+  Answered r w' l' =
       record {
         answer : r ≡ table_answer t (length w) (length l);
         working : w' ≡ working_after t w l;
@@ -31,8 +40,22 @@ module _ (t w l : List ℕ) where
         exactly : AcceptedExactly t (length w) (length l) r.number;
       }
 
-  exactly : (n : ℕ) → table_refusal t (length w) (length l) ≡ n → AcceptedExactly t (length w) (length l) n
-  exactly n e = rw (← e) (table_promise t (length w) (length l)).accepted_exactly
+  list_at_11 : (r : TableAnswer) (w' l' : List ℕ) → Outcome r w' l' → table_refusal t (length w) (length l) ≡ 11 → take r.length l' ≡ counterexample t
+  unfolding table_answer list_after at_front
+  list_at_11 r w' l' o eleven =
+      rw (o.told, o.list, eleven) (take_at (counterexample t) _ (length (counterexample t)) refl)
+
+  pub answered : (r : TableAnswer) (w' l' : List ℕ) → Outcome r w' l' → Answered r w' l'
+  unfolding table_answer
+  answered r w' l' o =
+      let e : r.number ≡ table_refusal t (length w) (length l) = ap (λ (a : TableAnswer). a.number) o.told in
+      record {
+        answer = o.told;
+        working = o.working;
+        list = o.list;
+        overshoots = λ eleven. rw (list_at_11 r w' l' o (sym e ∙ eleven)) (counterexample_promise t (length w) (length l) (sym e ∙ eleven));
+        exactly = rw e (table_promise t (length w) (length l)).accepted_exactly;
+      }
 
   by_shape : table_refusal t (length w) (length l) ≡ cond (eqb (shape_refusal t (length w) (length l)) 0) (cond (ltb (table_scale t) (best t (table_capacity t))) 11 0) (shape_refusal t (length w) (length l))
   unfolding table_refusal entries_refusal shape_refusal
@@ -46,11 +69,9 @@ module _ (t w l : List ℕ) where
       let e : table_refusal t (length w) (length l) ≡ n = by_shape ∙ rw (← is, ne_eqb n 0 (omega arith)) in
       let other = ne_eqb n 11 (omega (arith, is, shape_below t (length w) (length l))) in
       record {
-        answer = rw (e, other);
+        told = rw (e, other);
         working = rw (e, ne_eqb n 0 (omega arith), other);
         list = rw (e, other);
-        overshoots = λ eleven. absurd (omega (arith, is, shape_below t (length w) (length l)));
-        exactly = exactly n e;
       }
 
   module _ (shape : shape_refusal t (length w) (length l) ≡ 0) (w' : List ℕ) (filled : w' ≡ at_front (all_bests t) w) where
@@ -68,27 +89,14 @@ module _ (t w l : List ℕ) where
     unfolding table_answer working_after list_after
     ends_accepted fits =
         let e : table_refusal t (length w) (length l) ≡ 0 = by_shape ∙ rw (shape, le-ltb (table_scale t) (best t (table_capacity t)) (omega (arith, last_best, scale_is_last t))) in
-        record {
-          answer = rw e;
-          working = filled ∙ rw e;
-          list = rw e;
-          overshoots = λ eleven. absurd (omega arith);
-          exactly = exactly 0 e;
-        }
+        record { told = rw e; working = filled ∙ rw e; list = rw e }
 
     pub ends_refuted : (n : ℕ) (l' : List ℕ) → get_or t (length t - 1) 0 < get_or w' (length t - 1) 0 → n ≡ length (counterexample t) → l' ≡ at_front (counterexample t) l → Outcome (record { number = 11; length = n }) w' l'
-    unfolding table_answer working_after list_after at_front
+    unfolding table_answer working_after list_after
     ends_refuted n l' over count written =
         let more : table_scale t < best t (table_capacity t) = omega (arith, last_best, scale_is_last t) in
         let e : table_refusal t (length w) (length l) ≡ 11 = by_shape ∙ rw (shape, lt-ltb (table_scale t) (best t (table_capacity t)) more) in
-        let list : take n l' ≡ counterexample t = ap (take n) written ∙ take_at (counterexample t) _ n (sym count) in
-        record {
-          answer = rw (e, count);
-          working = filled ∙ rw e;
-          list = written ∙ rw e;
-          overshoots = λ eleven. rw list (overshoots t more);
-          exactly = exactly 11 e;
-        }
+        record { told = rw (e, count); working = filled ∙ rw e; list = written ∙ rw e }
 
 -- longer buffers change no refusal
 pub same_refusal : (t : List ℕ) (working list : ℕ) → length t ≤ working → table_capacity t ≤ list → table_refusal t working list ≡ table_refusal t (length t) (table_capacity t)

@@ -1,4 +1,5 @@
 -- P2: a table is accepted exactly when it has document 01's form and is dual_feasible, and a counterexample overshoots.
+use Rattle.std.proofs.lemmas.Bool.{cases_lt}
 use mathlib.Core.Path.{◌≡◌, refl}
 use mathlib.Core.Bool.{cond}
 use mathlib.Core.List.{List, [], ◌∷◌}
@@ -6,12 +7,12 @@ use mathlib.Core.Logic.{◌⊎◌, inl, inr}
 use Prim.Native.Nat.{ℕ, ◌≤◌, ◌<◌}
 use native.Mathlib.Nat.{le_refl, le_trans}
 use native.Mathlib.Omega.{arith}
-use borrow.Author.Tests.{ltb-false, lt-ltb, le-ltb}
+use borrow.Author.Tests.{ltb-false, le-ltb}
 use lib.Dec.{ltb}
 use lib.ListN.{length}
 use Rattle.functions.specs.Words.{total, DualFeasible}
 use Rattle.functions.specs.Promise.{StepPromise}
-use Rattle.functions.proofs.Cases.{lt_or_ge, not_refused, then_zero, then_decided}
+use Rattle.functions.proofs.Cases.{not_refused, then_zero, then_decided}
 use Rattle.tables.specs.Table.{entry, table_capacity, table_scale, best, counterexample}
 use Rattle.tables.specs.Check.{form_refusal, TableForm, entries_refusal, length_refusal, table_refusal}
 use Rattle.tables.specs.Promise.{Feasible, TablePromise, Overshoots}
@@ -28,10 +29,6 @@ module _ (t : List ℕ) where
   pub accepted : form_refusal t ≡ 0 → best t (table_capacity t) ≤ table_scale t → entries_refusal t ≡ 0
   unfolding entries_refusal
   accepted f l = rw (f, le-ltb (table_scale t) (best t (table_capacity t)) l)
-
-  pub refuted : form_refusal t ≡ 0 → table_scale t < best t (table_capacity t) → entries_refusal t ≡ 11
-  unfolding entries_refusal
-  refuted f l = rw (f, lt-ltb (table_scale t) (best t (table_capacity t)) l)
 
   pub overshoots : table_scale t < best t (table_capacity t) → Overshoots t (counterexample t)
   unfolding counterexample
@@ -94,7 +91,7 @@ module _ (t : List ℕ) where
     counterexample_promise e =
         let entries = (then_decided (length_refusal (length t) working list) (entries_refusal t) 11 (λ some is. omega (arith, is, length_below (length t) working list)) e).1 in
         let form = (then_decided (form_refusal t) (cond (ltb (table_scale t) (best t (table_capacity t))) 11 0) 11 (λ some is. omega (arith, is, form_below t)) entries).0 in
-        overshoots (go form entries (lt_or_ge (table_scale t) (best t (table_capacity t))))
+        overshoots (go form entries (cases_lt (table_scale t) (best t (table_capacity t))))
       where
         go : form_refusal t ≡ 0 → entries_refusal t ≡ 11 → (table_scale t < best t (table_capacity t)) ⊎ (best t (table_capacity t) ≤ table_scale t) → table_scale t < best t (table_capacity t)
         go form eleven (inl l) = l

@@ -1,11 +1,12 @@
 -- The counterexample fits its capacity, and its images total best of it.
+use Rattle.std.specs.Prelude.{Option, None, Some, MatchOption}
+use Rattle.std.specs.Option.{unwrap_or}
 use mathlib.Core.Path.{◌≡◌, ap, sym, ◌∙◌}
 use mathlib.Core.List.{List, [], ◌∷◌, map}
 use mathlib.Core.Logic.{◌⊎◌, inl, inr, ⊎_elim}
 use Prim.Native.Nat.{ℕ, zero, suc, ◌+◌, ◌-◌, ◌≤◌, ◌<◌}
 use native.Mathlib.Nat.{le_refl, eq-zero-or-pos}
 use native.Mathlib.Decide.{ℕ_discrete}
-use native.Mathlib.Numerals.{add-one}
 use native.Mathlib.Omega.{arith}
 use borrow.Author.Tests.{eq-eqb, ne_eqb}
 use lib.ListN.{length}
@@ -26,22 +27,31 @@ module _ (t : List ℕ) where
   unfolding least_from
   least_later c y k n = rw (ne_eqb _ _ n)
 
-  -- the same with the sizes that are left as c - y, as a loop over y has them
-  pub least_found : (c y : ℕ) → y < c → Reaches c y → least_from t c y (c - y) ≡ y
-  least_found c y l e =
-      let left : c - y ≡ suc (c - suc y) = omega arith in
-      ap (least_from t c y) left ∙ least_here c y (c - suc y) e
+  -- a search from y on over k sizes, whose first hit is z, and one without a hit
+  pub least_at : (k c y z : ℕ) → y ≤ z → z < y + k → Reaches c z → ((j : ℕ) → y ≤ j → j < z → Reaches c j → ⊥) → least_from t c y k ≡ z
+  least_at zero c y z l m e before = absurd (omega arith)
+  least_at (suc k) c y z l m e before = go (ℕ_discrete y z) (least_at k c (suc y) z)
+    where
+      go : Dec (y ≡ z) → (suc y ≤ z → z < suc y + k → Reaches c z → ((j : ℕ) → suc y ≤ j → j < z → Reaches c j → ⊥) → least_from t c (suc y) k ≡ z) → least_from t c y (suc k) ≡ z
+      go (yes here) rest = least_here c y k (rw here e) ∙ here
+      go (no later) rest =
+          least_later c y k (before y (omega arith) (omega (arith, later))) ∙ rest (omega (arith, later)) (omega arith) e (λ j a. before j (omega arith))
 
-  pub least_passed : (c y : ℕ) → y < c → (Reaches c y → ⊥) → least_from t c y (c - y) ≡ least_from t c (y + 1) (c - (y + 1))
-  least_passed c y l n =
-      let left : c - y ≡ suc (c - suc y) = omega arith in
-      ap (least_from t c y) left ∙ least_later c y (c - suc y) n ∙ rw add-one
-
-  pub least_last : (c y : ℕ) → y ≡ c → least_from t c y (c - y) ≡ y
+  pub least_none : (k c y : ℕ) → ((j : ℕ) → y ≤ j → j < y + k → Reaches c j → ⊥) → least_from t c y k ≡ y + k
   unfolding least_from
-  least_last c y e =
-      let left : c - y ≡ 0 = omega arith in
-      ap (least_from t c y) left
+  least_none zero c y none = omega arith
+  least_none (suc k) c y none =
+      least_later c y k (none y (omega arith) (omega arith)) ∙ least_none k c (suc y) (λ j a b. none j (omega arith) (omega arith)) ∙ omega arith
+
+  -- what a search over 1 to c - 1 finds, if it finds a size
+  abbrev pub FirstFound : ℕ → Option ℕ → Type 0
+  FirstFound c found =
+      MatchOption found ((k : ℕ) → 1 ≤ k → k < c → Reaches c k → ⊥) (λ y. (1 ≤ y) × (y < c) × Reaches c y × ((k : ℕ) → 1 ≤ k → k < y → Reaches c k → ⊥))
+
+  pub least_first : (c : ℕ) (found : Option ℕ) → 1 ≤ c → FirstFound c found → unwrap_or found c ≡ least_size t c
+  unfolding least_size
+  least_first c None pos none = sym (least_none (c - 1) c 1 (λ j a b. none j a (omega arith)) ∙ omega arith)
+  least_first c (Some y) pos is = sym (least_at (c - 1) c 1 y is.0 (omega (arith, is.1)) is.2 is.3)
 
   -- the size that is found from y on, among at most k more
   pub record Found (c y k r : ℕ) : Type 0 where

@@ -49,19 +49,15 @@ impl<'a> Bests<'a> {
     }
 
     // The least size with which a list that fits c and reaches best c begins.
-    #[tactic(auto, using(crate::proofs::Known::known_small))]
     fn least_size(self, c: usize) -> usize
         requires positive { 1 ≤ c }
         requires known { c < length self.totals.now }
         ensures { result ≡ least_size self.entry.table.now c }
     {
         let whole = self.totals[c];
-        for y in 1..c {
-            if u64::from(self.table[y]) + self.totals[c - y] == whole {
-                return y;
-            }
-        }
-        c
+        (1..c)
+            .find(|y| u64::from(self.table[*y]) + self.totals[c - *y] == whole)
+            .unwrap_or(c)
     }
 
     // Writes the counterexample of a table that is refused 11, and answers its length.

@@ -19,16 +19,10 @@ fn within_limit(table: &[u32]) -> bool
 fn refuse_lengths(entries: usize, working: usize, list: usize) -> Result<(), Refusal>
     ensures { number_in result ≡ length_refusal entries working list }
 {
-    if entries < 2 {
+    if !(2..=MOST_ENTRIES).contains(&entries) {
         return Err(Refusal::ListLength);
     }
-    if MOST_ENTRIES < entries {
-        return Err(Refusal::ListLength);
-    }
-    if working < entries {
-        return Err(Refusal::BufferTooShort);
-    }
-    if list < entries - 1 {
+    if working < entries || list < entries - 1 {
         return Err(Refusal::BufferTooShort);
     }
     Ok(())

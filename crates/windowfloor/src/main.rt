@@ -46,13 +46,8 @@ fn hand_over<R: Read, W: Write>(reader: &mut R, out: &mut W) -> Result<(), Failu
     ensures unread { IsErrOf result Failure.Unreadable → Keeps (W.contents out.old) (W.contents out.new) }
 {
     let mut job = [0u8; MOST_READ];
-    let Ok(n) = input::read_full(reader, &mut job) else {
-        return Err(Failure::Unreadable);
-    };
-    match print_answer(out, &job[..n]) {
-        Ok(()) => Ok(()),
-        Err(_) => Err(Failure::Unwritable),
-    }
+    let n = input::read_full(reader, &mut job).map_err(|_| Failure::Unreadable)?;
+    print_answer(out, &job[..n]).map_err(|_| Failure::Unwritable)
 }
 
 fn main(rt: HostRuntime) {

@@ -1,6 +1,6 @@
 -- `accepted_image` meets its contract: the judgement, then refusal 5, then the formula.
 use mathlib.Core.Path.{sym}
-use Rattle.std.proofs.lemmas.Result.{err_from_is_err_and}
+use Rattle.refusals.proofs.Stopped.{stopped}
 use native.Mathlib.Omega.{arith}
 use Rattle.refusals.proofs.Numbers.{number_positive}
 use Rattle.functions.proofs.Answers.{step_refused, image_over, image_passes, image_accepted}
@@ -8,8 +8,7 @@ use Rattle.functions.proofs.accepted_image.Goals as goal
 
 pub returns-in_err-step-clause-number : goal.returns-in_err-step-clause-number
 returns-in_err-step-clause-number c =
-    let p = err_from_is_err_and c.from_residual.result c.from_residual.ensures.1 in
-    rw (p.1, p.2) (step_refused _ _ _ _ _ _ c.in_err-step.ensures.number (λ none. omega (arith, none, number_positive c.in_err-step.field-0.0)))
+    rw (stopped _ c.from_residual.ensures.1) (step_refused _ _ _ _ _ _ c.in_err-step.ensures.number (λ none. omega (arith, none, number_positive c.in_err-step.field-0.0)))
 
 pub returns-then-capacity-x-clause-number : goal.returns-then-capacity-x-clause-number
 returns-then-capacity-x-clause-number c = image_over _ _ _ _ _ (sym c.in_ok-step.ensures.number) c.if-capacity-x.true

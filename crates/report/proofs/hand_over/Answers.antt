@@ -1,11 +1,8 @@
 -- `hand_over` meets its contract.
 use mathlib.Core.Path.{◌∙◌}
 use native.Mathlib.Omega.{arith}
-use Rattle.report.proofs.Puts.{put_length, put_whole}
+use Rattle.report.proofs.Puts.{put_whole}
 use Rattle.report.proofs.hand_over.Goals as goal
-
-pub shape_of-out : goal.shape_of-out
-shape_of-out c = put_length c.answer_text.ensures.put
 
 pub returns : goal.returns
 returns c =

@@ -1,9 +1,6 @@
--- `put_each` meets its contract: the text that is left never grows, and the place stays within the list.
+-- `put_each` meets its contract: the text that is left never grows.
 use Rattle.std.proofs.Common.{◌≤◌, length}
 use Rattle.runs.proofs.put_each.Given as goal
 
 abbrev pub invariant-loop : goal.invariant-loop
-invariant-loop g l = record {
-  forward : length l.numbers ≤ length l.initial.numbers;
-  within : l.from ≤ length l.places;
-}
+invariant-loop g l = length l.numbers ≤ length l.initial.numbers

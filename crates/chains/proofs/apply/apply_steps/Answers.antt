@@ -6,7 +6,7 @@ use Rattle.chains.proofs.apply.apply_steps.Goals as goal
 pub apply_step-present-requires : goal.apply_step-present-requires
 apply_step-present-requires c =
     let more = c.loop-step-test.true in
-    (step_within _ _ _ more c.requires.0, appliable _ _ _ _ _ _ c.loop-step.invariant _ (steps_at _ _ _ more))
+    (step_within c.args.steps _ _ more, appliable _ _ _ _ _ _ c.loop-step.invariant _ (steps_at _ _ _ more))
 
 pub loop-step-preserved : goal.loop-step-preserved
 loop-step-preserved c = through_next _ _ _ _ _ _ c.loop-step.invariant _ (steps_at _ _ _ c.loop-step-test.true) _ _ c.apply_step-present.ensures

@@ -5,4 +5,4 @@ use Rattle.chains.proofs.Present.{Present}
 use Rattle.chains.proofs.judge.judge_steps.Given as goal
 
 abbrev pub invariant-loop-i : goal.invariant-loop-i
-invariant-loop-i l = Present l.capacity (steps_in l.fn.steps) l.present l.i × (l.list ≡ l.initial.list)
+invariant-loop-i l = Present l.capacity (steps_in l.fn.steps) l.present l.i-counter × (l.list ≡ l.initial.list)

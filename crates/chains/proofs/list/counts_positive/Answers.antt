@@ -1,20 +1,16 @@
--- `counts_positive` meets its contract: what is left of the counts decides.
-use mathlib.Core.Path.{sym, ◌∙◌}
-use native.Mathlib.Omega.{arith}
-use borrow.Author.Tests.{le-leb, lt-leb}
-use Rattle.chains.proofs.Counts.{whole_halfwords}
-use Rattle.chains.proofs.SizeTests.{each_fails, each_holds, each_passed}
+-- `counts_positive` meets its contract: the closure's test of a chunk is the definition's of its number.
+use mathlib.Core.Path.{ap, ◌∙◌}
+use mathlib.Core.List.{map}
+use Rattle.std.proofs.Common.{rules, tests, leb}
+use Rattle.std.specs.Int.{w16, from_be_bytes}
+use Rattle.std.proofs.lemmas.Iterator.{YieldsList-from_slice}
+use Rattle.std.proofs.lemmas.Iterator.Search.{all_from_yields_List}
+use Rattle.fields.proofs.Decoding.{halfwords_in_chunks}
+use Rattle.chains.proofs.SizeTests.{each_of_chunks}
 use Rattle.chains.proofs.list.counts_positive.Goals as goal
 
-pub returns-then-halfword_at-lt1 : goal.returns-then-halfword_at-lt1
-returns-then-halfword_at-lt1 c =
-    let numbers = whole_halfwords _ c.requires in
-    sym (c.loop-i.invariant ∙ each_fails _ _ c.loop-i.i c.halfword_at.result (c.halfword_at.ensures.0 ∙ numbers.at _ c.loop-i-test.true) (omega (arith, numbers.count)) (lt-leb 1 c.halfword_at.result (omega arith)))
-
-pub loop-i-preserved : goal.loop-i-preserved
-loop-i-preserved c =
-    let numbers = whole_halfwords _ c.requires in
-    c.loop-i.invariant ∙ each_holds _ _ c.loop-i.i c.halfword_at.result (c.halfword_at.ensures.0 ∙ numbers.at _ c.loop-i-test.true) (omega (arith, numbers.count)) (le-leb 1 c.halfword_at.result (omega arith))
-
 pub returns : goal.returns
-returns c = sym (c.loop-i.invariant ∙ each_passed _ _ c.loop-i.i (omega (arith, (whole_halfwords _ c.requires).count, c.loop-i-test.false)))
+returns c =
+    let chunks = c.as_chunks.result.0.now in
+    all_from_yields_List (λ chunk. leb 1 (from_be_bytes w16 chunk)) _ _ _ c.all.ensures.ran (YieldsList-from_slice chunks cc) (λ x b q k. search (rules, tests))
+    ∙ each_of_chunks (leb 1) (from_be_bytes w16) chunks _ (ap (map (from_be_bytes w16)) c.as_chunks.ensures.front ∙ halfwords_in_chunks c.args.bytes.now)

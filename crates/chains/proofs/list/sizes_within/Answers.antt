@@ -1,21 +1,17 @@
--- `sizes_within` meets its contract: what is left of the sizes decides.
-use mathlib.Core.Path.{sym, ◌∙◌}
-use native.Mathlib.Omega.{arith}
-use Rattle.std.proofs.Common.{rules}
-use Rattle.std.proofs.lemmas.Grind.{common_steps}
-use Rattle.chains.proofs.Counts.{whole_words}
-use Rattle.chains.proofs.SizeTests.{each_fails, each_holds, each_passed}
+-- `sizes_within` meets its contract: the closure's test of a chunk is the definition's of its number.
+use mathlib.Core.Path.{ap, ◌∙◌}
+use mathlib.Core.Bool.{◌&&◌}
+use mathlib.Core.List.{map}
+use Rattle.std.proofs.Common.{rules, tests, leb}
+use Rattle.std.specs.Int.{w32, from_be_bytes}
+use Rattle.std.proofs.lemmas.Iterator.{YieldsList-from_slice}
+use Rattle.std.proofs.lemmas.Iterator.Search.{all_from_yields_List}
+use Rattle.fields.proofs.Decoding.{words_in_chunks}
+use Rattle.chains.proofs.SizeTests.{each_of_chunks}
 use Rattle.chains.proofs.list.sizes_within.Goals as goal
 
-pub returns-then-not-contains : goal.returns-then-not-contains
-returns-then-not-contains c =
-    let numbers = whole_words _ c.requires in
-    sym (c.loop-i.invariant ∙ each_fails _ _ c.loop-i.i c.word_at.result (c.word_at.ensures.0 ∙ numbers.at _ c.loop-i-test.true) (omega (arith, numbers.count)) (search rules))
-
-pub loop-i-preserved : goal.loop-i-preserved
-loop-i-preserved c =
-    let numbers = whole_words _ c.requires in
-    c.loop-i.invariant ∙ each_holds _ _ c.loop-i.i c.word_at.result (c.word_at.ensures.0 ∙ numbers.at _ c.loop-i-test.true) (omega (arith, numbers.count)) (grind (arith, common_steps))
-
 pub returns : goal.returns
-returns c = sym (c.loop-i.invariant ∙ each_passed _ _ c.loop-i.i (omega (arith, (whole_words _ c.requires).count, c.loop-i-test.false)))
+returns c =
+    let chunks = c.as_chunks.result.0.now in
+    all_from_yields_List (λ chunk. leb c.args.least (from_be_bytes w32 chunk) && leb (from_be_bytes w32 chunk) c.args.capacity) _ _ _ c.all.ensures.ran (YieldsList-from_slice chunks cc) (λ x b q k. search (rules, tests))
+    ∙ each_of_chunks _ (from_be_bytes w32) chunks _ (ap (map (from_be_bytes w32)) c.as_chunks.ensures.front ∙ words_in_chunks c.args.bytes.now)

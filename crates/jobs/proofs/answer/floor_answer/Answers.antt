@@ -1,49 +1,65 @@
 -- `floor_answer` meets its contract: by blocks, or over the whole list.
-use mathlib.Core.Path.{◌∙◌}
+use mathlib.Core.Path.{◌≡◌, ap, ◌∙◌}
+use Prim.Native.Nat.{ℕ, ◌*◌, ◌≤◌}
 use native.Mathlib.Omega.{arith}
-use Rattle.jobs.proofs.Finishing.{countable, sum_bound, roundable, whole_answer, whole_written, ready, blocks_answer, blocks_written}
+use Rattle.std.specs.Prelude.{Option}
+use Rattle.std.specs.Option.{unwrap_or}
+use Rattle.functions.specs.Families.{◌up◌}
+use Rattle.functions.specs.Words.{most_count, limit}
+use Rattle.fields.specs.Grammar.{most_sizes}
+use Rattle.jobs.proofs.Taken.{parts_are}
+use Rattle.jobs.proofs.Finishing.{countable, sum_bound, roundable, whole_answer, whole_written, ready, blocks_answer, blocks_written, none_answered}
+use Rattle.jobs.proofs.answer.floor_answer.Goals.{in-Some, in-None}
 use Rattle.jobs.proofs.answer.floor_answer.Goals as goal
 
 pub write_floors-sums-requires : goal.write_floors-sums-requires
 write_floors-sums-requires c =
-    let pre = c.requires.1 in
+    let pre = c.requires in
     let list = pre.list in
-    ready _ list.accepted list.no_rows _ list.parts_are _ _ pre.applied pre.is_floor c.in-Some.numbers (rw c.in-Some.is at list.parts_are.blocks_are) _ (omega (arith, c.told-floors))
+    ready _ list.accepted list.no_rows _ (parts_are c.args.job) _ _ pre.applied pre.is_floor c.in-Some.numbers (rw c.in-Some.is at (parts_are c.args.job).blocks_are) _ (omega (arith, c.told-floors))
 
-pub round_up-whole-requires : goal.round_up-whole-requires
-round_up-whole-requires c =
-    let pre = c.requires.1 in
+pub sum_of-requires : goal.sum_of-requires
+sum_of-requires c =
+    let pre = c.requires in
     let list = pre.list in
-    roundable _ list.accepted list.no_rows _ list.parts_are _ _ pre.applied _ c.write_floors-sums.ensures.sum_most
-
-pub returns-in-Some : goal.returns-in-Some
-returns-in-Some c =
-    λ fields pre.
-    let list = pre.list in
-    let blocks = rw c.in-Some.is at list.parts_are.blocks_are in
-    let summed = c.write_floors-sums.ensures in (
-      c.accepted.ensures ∙ blocks_answer fields list.accepted list.no_rows _ list.parts_are _ _ pre.applied pre.is_floor c.in-Some.numbers blocks _ _ _ summed _ c.round_up-whole.ensures,
-      blocks_written fields list.accepted list.no_rows _ list.parts_are _ _ pre.applied pre.is_floor c.in-Some.numbers blocks _ _ _ summed,
-    )
-
-pub sum_of-sum-requires : goal.sum_of-sum-requires
-sum_of-sum-requires c =
-    let pre = c.requires.1 in
-    let list = pre.list in
-    countable _ list.accepted list.no_rows _ list.parts_are _ _ pre.applied
+    countable _ list.accepted list.no_rows _ (parts_are c.args.job) _ _ pre.applied
 
 pub round_up-floor-requires : goal.round_up-floor-requires
 round_up-floor-requires c =
-    let pre = c.requires.1 in
+    let pre = c.requires in
     let list = pre.list in
-    let bound = sum_bound _ list.accepted list.no_rows _ list.parts_are _ _ pre.applied _ c.sum_of-sum.ensures.1 in
-    roundable _ list.accepted list.no_rows _ list.parts_are _ _ pre.applied _ bound
+    let h = parts_are c.args.job in
+    let most : c.match-job.sum.0 ≤ most_sizes * (most_count * limit) =
+    elim c.match-job.branch [
+      | in-Some w ↦ rw w.sum-is w.write_floors-sums.ensures.sum_most
+      | in-None w ↦ rw w.sum-is (sum_bound _ list.accepted list.no_rows _ h _ _ pre.applied _ w.sum_of.ensures.1)
+    ]
+    in
+    omega (arith, roundable _ list.accepted list.no_rows _ h _ _ pre.applied _ most)
 
-pub returns-in-None : goal.returns-in-None
-returns-in-None c =
-    λ fields pre.
+-- the floor and the total, by the sum and the blocks' total of each way
+floor_of : {s t : ℕ × Option ℕ} (scale : ℕ) → s ≡ t → (s.0 up scale) ≡ (t.0 up scale)
+floor_of scale e = ap (λ (s : ℕ × Option ℕ). s.0 up scale) e
+
+total_of : {s t : ℕ × Option ℕ} (floor : ℕ) → s ≡ t → unwrap_or s.1 floor ≡ unwrap_or t.1 floor
+total_of floor e = ap (λ (s : ℕ × Option ℕ). unwrap_or s.1 floor) e
+
+pub returns : goal.returns
+returns c =
+    let pre = c.requires in
     let list = pre.list in
-    let none = rw c.in-None.is at list.parts_are.blocks_are in (
-      c.accepted-in-None.ensures ∙ whole_answer fields list.accepted list.no_rows _ list.parts_are _ _ pre.applied pre.is_floor none _ _ c.sum_of-sum.ensures.0 c.round_up-floor.ensures,
-      whole_written fields list.accepted list.no_rows _ list.parts_are _ _ pre.applied pre.is_floor none _,
-    )
+    let h = parts_are c.args.job in
+    let none = none_answered c.default.result c.default.ensures in
+    elim c.match-job.branch [
+      | in-Some w ↦
+          let blocks = rw w.in-Some.is at h.blocks_are in
+          let summed = w.write_floors-sums.ensures in (
+            rw (none, w.sum-is, c.unwrap_or.ensures ∙ total_of _ w.sum-is) (blocks_answer _ list.accepted list.no_rows _ h _ _ pre.applied pre.is_floor w.in-Some.numbers blocks _ _ _ summed _ (c.round_up-floor.ensures ∙ floor_of _ w.sum-is)),
+            rw w.floors-is (blocks_written _ list.accepted list.no_rows _ h _ _ pre.applied pre.is_floor w.in-Some.numbers blocks _ _ _ summed),
+          )
+      | in-None w ↦
+          let whole = rw w.in-None.is at h.blocks_are in (
+            rw (none, w.sum-is, c.unwrap_or.ensures ∙ total_of _ w.sum-is) (whole_answer _ list.accepted list.no_rows _ h _ _ pre.applied pre.is_floor whole _ _ w.sum_of.ensures.0 (c.round_up-floor.ensures ∙ floor_of _ w.sum-is)),
+            rw w.floors-is (whole_written _ list.accepted list.no_rows _ h _ _ pre.applied pre.is_floor whole _),
+          )
+    ]

@@ -7,6 +7,6 @@ use Rattle.jobs.proofs.Judged.{RowsSoFar}
 use Rattle.jobs.proofs.rows.judge_rows.Given as goal
 
 abbrev pub invariant-loop-k : goal.invariant-loop-k
-invariant-loop-k l = RowsLeft (fields_in l.job) l.k l.rest
-    × RowsSoFar (job_steps (fields_in l.job)) (job_rows (fields_in l.job)) l.k
+invariant-loop-k l = RowsLeft (fields_in l.job.bytes.now) l.k l.rest
+    × RowsSoFar (job_steps (fields_in l.job.bytes.now)) (job_rows (fields_in l.job.bytes.now)) l.k
     × (l.list ≡ l.initial.list)

@@ -5,4 +5,4 @@ use Rattle.jobs.proofs.Writing.{RowsWritten}
 use Rattle.jobs.proofs.rows.write_rows.Given as goal
 
 abbrev pub invariant-loop-k : goal.invariant-loop-k
-invariant-loop-k l = RowsWritten (fields_in l.job) (job_steps (fields_in l.job)) l.initial.images l.initial.scales l.k l.rest l.place l.images l.scales
+invariant-loop-k l = RowsWritten (fields_in l.job.bytes.now) (job_steps (fields_in l.job.bytes.now)) l.initial.images l.initial.scales l.k l.rest l.place l.images l.scales
