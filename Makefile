@@ -25,7 +25,7 @@ PREFIX = /usr/local
 LIBRARY = target/libwindowfloor.a
 # The crates with functions for C. Over each stands a static library, NAME_c, that exports them: what it reaches in
 # the crates below is in its archive.
-EXPORTING = functions tables jobs sweeps exact
+EXPORTING = functions tables floors cuts sweeps exact
 ARCHIVES = $(EXPORTING:%=target/archives/lib%_c.a)
 # Machine code for any x86-64.
 CPU = x86-64
@@ -59,9 +59,10 @@ target/bin/windowfloor: $$(call sources,windowfloor) $$(call sources,report) \
 	cp crates/windowfloor/out/windowfloor $@
 
 # Functions start at a cache line, so that their speed does not depend on what is linked before them. Those of BEHIND start so
-# many bytes behind one. In the table check the loop, of 49 bytes, then lies on one line, as it does in what judges a job's
-# list, `chains::judge::judge_list`, with nothing before it (`objdump -d target/members/jobs_c.o`, `make bench`).
-BEHIND = tables_c/windowfloor_table_check=32
+# many bytes behind one. In the table check the loop, of 49 bytes, then lies on one line, and so it does in a floor, where what judges
+# the list stands in `windowfloor_floor` itself; in a cut it stands in `chains::judge::judge_list` and lies so with nothing before it
+# (`objdump -d target/members/tables_c.o`, `floors_c.o` and `cuts_c.o`, `make bench`).
+BEHIND = tables_c/windowfloor_table_check=32 floors_c/windowfloor_floor=32
 $(LIBRARY): $(ARCHIVES) Makefile
 	rm -rf $@ target/members
 	mkdir target/members
@@ -115,7 +116,7 @@ target/releases-answers: tests/releases/answers.c tests/c/assignment.h include/w
 
 # The same driver over the C reference.
 target/releases-reference: tests/releases/answers.c tests/c/reference.c $(wildcard tests/c/*.h) include/windowfloor.h
-	$(CC) $(CFLAGS) $(foreach name,image table_check job sweep exact,-Dwindowfloor_$(name)=reference_$(name)) \
+	$(CC) $(CFLAGS) $(foreach name,image table_check floor cut sweep exact,-Dwindowfloor_$(name)=reference_$(name)) \
 		tests/releases/answers.c tests/c/reference.c -o $@
 
 releases: target/releases-answers target/releases-reference target/bin/windowfloor

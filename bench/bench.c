@@ -87,16 +87,29 @@ static void run_table_check(const struct contender *who)
     memcpy(out.answer, &answer, sizeof answer);
 }
 
-static void run_one_job(const struct contender *who)
+static void run_one_floor(const struct contender *who)
 {
-    struct windowfloor_job_answer answer =
+    struct windowfloor_floor_answer answer =
         who->parts == NULL
-            ? windowfloor_job(job, job_bytes, out.images, WINDOWFLOOR_JOB_IMAGES, out.working,
+            ? windowfloor_floor(job, job_bytes, out.images, WINDOWFLOOR_JOB_IMAGES, out.working,
+                                WINDOWFLOOR_JOB_WORKING, out.list, WINDOWFLOOR_JOB_LIST, out.blocks,
+                                WINDOWFLOOR_JOB_BLOCKS)
+            : run_floor(who->parts, job, job_bytes, out.images, WINDOWFLOOR_JOB_IMAGES, out.working,
+                        WINDOWFLOOR_JOB_WORKING, out.list, WINDOWFLOOR_JOB_LIST, out.blocks,
+                        WINDOWFLOOR_JOB_BLOCKS);
+    memcpy(out.answer, &answer, sizeof answer);
+}
+
+static void run_one_cut(const struct contender *who)
+{
+    struct windowfloor_cut_answer answer =
+        who->parts == NULL
+            ? windowfloor_cut(job, job_bytes, out.images, WINDOWFLOOR_JOB_IMAGES, out.working,
                               WINDOWFLOOR_JOB_WORKING, out.list, WINDOWFLOOR_JOB_LIST, out.scales,
-                              WINDOWFLOOR_JOB_SCALES, out.blocks, WINDOWFLOOR_JOB_BLOCKS)
-            : run_job(who->parts, job, job_bytes, out.images, WINDOWFLOOR_JOB_IMAGES, out.working,
+                              WINDOWFLOOR_JOB_SCALES)
+            : run_cut(who->parts, job, job_bytes, out.images, WINDOWFLOOR_JOB_IMAGES, out.working,
                       WINDOWFLOOR_JOB_WORKING, out.list, WINDOWFLOOR_JOB_LIST, out.scales,
-                      WINDOWFLOOR_JOB_SCALES, out.blocks, WINDOWFLOOR_JOB_BLOCKS);
+                      WINDOWFLOOR_JOB_SCALES);
     memcpy(out.answer, &answer, sizeof answer);
 }
 
@@ -487,12 +500,14 @@ struct row {
 #define TABLE_ROW(c, scale, what) \
     {"table check, C = " what, prepare_table, c, scale, run_table_check, "µs", 1e6, 1, 0, 0, 0}
 #define JOB_ROW(prepare, c, with, what, at_most) \
-    {"job, " what, prepare, c, with, run_one_job, "µs", 1e6, 1, at_most, 1, 0}
+    {"job, " what, prepare, c, with, run_one_floor, "µs", 1e6, 1, at_most, 1, 0}
+#define CUT_ROW(prepare, c, with, what, at_most) \
+    {"job, " what, prepare, c, with, run_one_cut, "µs", 1e6, 1, at_most, 1, 0}
 /* Two rows behind the one without blocks. */
 #define BLOCKS_ROW(prepare, c, with, what, at_most) \
-    {"job, " what, prepare, c, with, run_one_job, "µs", 1e6, 1, at_most, 2, 0}
+    {"job, " what, prepare, c, with, run_one_floor, "µs", 1e6, 1, at_most, 2, 0}
 #define SHORT_TABLE_ROW(c, with, what, at_most) \
-    {"job, " what, prepare_short_table, c, with, run_one_job, "µs", 1e6, 1, at_most, 1, \
+    {"job, " what, prepare_short_table, c, with, run_one_floor, "µs", 1e6, 1, at_most, 1, \
      WINDOWFLOOR_OTHER_CAPACITY}
 #define SWEEP_ROW(c, with, name) \
     {"sweep, 4,096 p × 2,048 sizes, " name, prepare_sweep, c, with, run_one_sweep, "ms", 1e3, 1, 0, 0, 0}
@@ -521,10 +536,10 @@ static const struct row rows[] = {
     JOB_ROW(prepare_table_job, 2047, 1, "2,039 sizes, 1 table of 2,048 entries", 0),
     SHORT_TABLE_ROW(2047, 2, "2,039 sizes, 1 table of 2,048 entries, then one refused with 18", 1.3),
     SHORT_TABLE_ROW(2047, 1, "2,039 sizes, the first table refused with 18", 0.05),
-    JOB_ROW(prepare_family_rows, MILLION, 1, "1 row of 2,048 coefficients, 8 family steps", 0),
-    JOB_ROW(prepare_family_rows, MILLION, 64, "64 rows of 32 coefficients, 8 family steps", 1.5),
-    JOB_ROW(prepare_table_rows, 2047, 1, "1 row of 1,920 coefficients, 7 tables of 2,048 entries", 0),
-    JOB_ROW(prepare_table_rows, 2047, 64, "64 rows of 30 coefficients, 7 tables of 2,048 entries", 1.3),
+    CUT_ROW(prepare_family_rows, MILLION, 1, "1 row of 2,048 coefficients, 8 family steps", 0),
+    CUT_ROW(prepare_family_rows, MILLION, 64, "64 rows of 32 coefficients, 8 family steps", 1.5),
+    CUT_ROW(prepare_table_rows, 2047, 1, "1 row of 1,920 coefficients, 7 tables of 2,048 entries", 0),
+    CUT_ROW(prepare_table_rows, 2047, 64, "64 rows of 30 coefficients, 7 tables of 2,048 entries", 1.3),
     SWEEP_ROW(SWEPT, 1, "family 1"),
     SWEEP_ROW(SWEPT, 2, "family 2"),
     SWEEP_ROW(SWEPT, 3, "family 3"),
@@ -578,7 +593,7 @@ static void compare(const struct row *row)
         memset(&out, 0, sizeof out);
         memset(windows, 0xff, sizeof windows);
         row->run(&contenders[who]);
-        if (row->run == run_one_job)
+        if (row->run == run_one_floor || row->run == run_one_cut)
             memset(out.working, 0, sizeof out.working);
         results[who] = digest();
         int held = row->run != run_exacts || all_windows_hold();

@@ -163,18 +163,6 @@ static void add_field(struct contents *c, uint8_t tag, const uint8_t *value, siz
     }
 }
 
-/* What a job may not be as a whole, once its fields are read. */
-static uint64_t judge_contents(const struct contents *c)
-{
-    if (c->kind == WINDOWFLOOR_KIND_ROWS)
-        return c->lists < 1 || c->lists > WINDOWFLOOR_MOST_ROWS || c->sizes > WINDOWFLOOR_MOST_SIZES
-            ? WINDOWFLOOR_BAD_ROWS : 0;
-    if (c->last_tag < WINDOWFLOOR_TAG_SIZES)
-        return WINDOWFLOOR_BAD_TAG;
-    return c->kind != WINDOWFLOOR_KIND_FLOOR && c->kind != WINDOWFLOOR_KIND_CUT
-        ? WINDOWFLOOR_BAD_KIND : 0;
-}
-
 static uint64_t read_fields(const uint8_t *job, size_t bytes, struct contents *c)
 {
     c->kind = c->last_tag = 0;
@@ -192,7 +180,44 @@ static uint64_t read_fields(const uint8_t *job, size_t bytes, struct contents *c
         add_field(c, job[at], job + at + 3, length);
         at += 3 + length;
     }
-    return judge_contents(c);
+    return c->kind != WINDOWFLOOR_KIND_ROWS && c->last_tag < WINDOWFLOOR_TAG_SIZES ? WINDOWFLOOR_BAD_TAG : 0;
+}
+
+/* What an operation takes: kinds from the first to the last, and a buffer of its own of so many places. */
+struct taken {
+    uint8_t first, last;
+    size_t own;
+};
+
+static const struct taken by_floor = {WINDOWFLOOR_KIND_FLOOR, WINDOWFLOOR_KIND_FLOOR, WINDOWFLOOR_JOB_BLOCKS};
+static const struct taken by_cut = {WINDOWFLOOR_KIND_CUT, WINDOWFLOOR_KIND_ROWS, WINDOWFLOOR_JOB_SCALES};
+
+/* What a job may not be as a whole, once its fields are read. */
+static uint64_t judge_contents(const struct contents *c, const struct taken *taken)
+{
+    if (c->kind < taken->first || c->kind > taken->last)
+        return WINDOWFLOOR_BAD_KIND;
+    if (c->kind != WINDOWFLOOR_KIND_ROWS)
+        return 0;
+    return c->lists < 1 || c->lists > WINDOWFLOOR_MOST_ROWS || c->sizes > WINDOWFLOOR_MOST_SIZES
+        ? WINDOWFLOOR_BAD_ROWS : 0;
+}
+
+struct places {
+    size_t images, working, list, own;
+};
+
+/* All that is asked before the lists. */
+static uint64_t read_job(const uint8_t *job, size_t bytes, struct places lent, const struct taken *taken,
+                         struct contents *c)
+{
+    if (bytes > WINDOWFLOOR_MOST_JOB_BYTES)
+        return WINDOWFLOOR_JOB_TOO_LONG;
+    if (lent.images < WINDOWFLOOR_JOB_IMAGES || lent.working < WINDOWFLOOR_JOB_WORKING
+        || lent.list < WINDOWFLOOR_JOB_LIST || lent.own < taken->own)
+        return WINDOWFLOOR_SHORT_BUFFER;
+    uint64_t number = read_fields(job, bytes, c);
+    return number != 0 ? number : judge_contents(c, taken);
 }
 
 /* Jobs: each list is mapped in its part of an array that is copied when all steps of all are accepted. */
@@ -283,10 +308,11 @@ static uint64_t known_table_step(const struct parts *parts, const struct step *s
     return 0;
 }
 
-/* The steps of one list; a refusal's number, step and length go into the answer. */
+/* The steps of one list; a refusal's number, step and length go into the answer. That of a cut has what both
+ * answers have. */
 static void run_steps(const struct parts *parts, const struct contents *c, int first,
                       struct chain *chain, uint64_t *working, uint32_t *list,
-                      struct windowfloor_job_answer *answer)
+                      struct windowfloor_cut_answer *answer)
 {
     for (size_t i = 0; i < c->steps && answer->number == 0; i++) {
         const struct step *step = &c->step[i];
@@ -300,36 +326,12 @@ static void run_steps(const struct parts *parts, const struct contents *c, int f
     }
 }
 
-static void add_floors(const struct parts *parts, const struct list *list,
-                       const struct chain *chain, uint32_t *blocks,
-                       struct windowfloor_job_answer *answer)
-{
-    const struct counted counted = {chain->images, list->counts, chain->n};
-    if (list->blocks == NULL) {
-        answer->sum = sum_from(&counted, 0, chain->n);
-        answer->total = round_up(answer->sum, chain->scale);
-    } else {
-        struct sums sums =
-            parts->floor_blocks(&counted, list->blocks, list->block_count, chain->scale, blocks);
-        answer->sum = sums.sum;
-        answer->total = sums.total;
-    }
-    answer->floor = round_up(answer->sum, chain->scale);
-}
-
-static void accept(const struct parts *parts, const struct contents *c, const struct chain *chain,
-                   uint32_t *blocks, struct windowfloor_job_answer *answer)
-{
-    answer->scale = chain->scale;
-    if (c->kind == WINDOWFLOOR_KIND_FLOOR)
-        add_floors(parts, &c->list[0], chain, blocks, answer);
-}
-
+/* All lists; the scales that they reach go into `reached`. */
 static void run_lists(const struct parts *parts, const struct contents *c, uint32_t *images,
-                      uint64_t *working, uint32_t *list, uint32_t *scales, uint32_t *blocks,
-                      struct windowfloor_job_answer *answer)
+                      uint64_t *working, uint32_t *list, uint32_t *reached,
+                      struct windowfloor_cut_answer *answer)
 {
-    uint32_t mapped[WINDOWFLOOR_MOST_SIZES], reached[WINDOWFLOOR_MOST_ROWS];
+    uint32_t mapped[WINDOWFLOOR_MOST_SIZES];
     struct chain chain = {0, 0, mapped};
     int rows = c->kind == WINDOWFLOOR_KIND_ROWS;
     for (size_t i = 0; i < c->lists && answer->number == 0; i++) {
@@ -342,32 +344,61 @@ static void run_lists(const struct parts *parts, const struct contents *c, uint3
     if (answer->number != 0)
         return;
     answer->n = c->sizes;
+    answer->scale = rows ? 0 : chain.scale;
     memcpy(images, mapped, c->sizes * sizeof *images);
-    if (rows)
-        memcpy(scales, reached, c->lists * sizeof *scales);
-    else
-        accept(parts, c, &chain, blocks, answer);
 }
 
-struct windowfloor_job_answer run_job(const struct parts *parts, const uint8_t *job, size_t bytes,
+static void add_floors(const struct parts *parts, const struct list *list, const uint32_t *images,
+                       uint32_t *blocks, struct windowfloor_floor_answer *answer)
+{
+    const struct counted counted = {images, list->counts, list->n};
+    if (list->blocks == NULL) {
+        answer->sum = sum_from(&counted, 0, list->n);
+        answer->total = round_up(answer->sum, answer->scale);
+    } else {
+        struct sums sums =
+            parts->floor_blocks(&counted, list->blocks, list->block_count, answer->scale, blocks);
+        answer->sum = sums.sum;
+        answer->total = sums.total;
+    }
+    answer->floor = round_up(answer->sum, answer->scale);
+}
+
+struct windowfloor_floor_answer run_floor(const struct parts *parts, const uint8_t *job, size_t bytes,
+                                          uint32_t *images, size_t images_places,
+                                          uint64_t *working, size_t working_places,
+                                          uint32_t *list, size_t list_places,
+                                          uint32_t *blocks, size_t blocks_places)
+{
+    struct windowfloor_cut_answer ran = {0, 0, 0, 0, 0, 0};
+    struct places lent = {images_places, working_places, list_places, blocks_places};
+    struct contents contents;
+    uint32_t reached;
+    ran.number = read_job(job, bytes, lent, &by_floor, &contents);
+    if (ran.number == 0)
+        run_lists(parts, &contents, images, working, list, &reached, &ran);
+    struct windowfloor_floor_answer answer = {ran.number, ran.n,      0,       0, ran.scale,
+                                              ran.step,   ran.length, ran.row, 0};
+    if (answer.number == 0)
+        add_floors(parts, &contents.list[0], images, blocks, &answer);
+    return answer;
+}
+
+struct windowfloor_cut_answer run_cut(const struct parts *parts, const uint8_t *job, size_t bytes,
                                       uint32_t *images, size_t images_places,
                                       uint64_t *working, size_t working_places,
                                       uint32_t *list, size_t list_places,
-                                      uint32_t *scales, size_t scales_places,
-                                      uint32_t *blocks, size_t blocks_places)
+                                      uint32_t *scales, size_t scales_places)
 {
-    struct windowfloor_job_answer answer = {0, 0, 0, 0, 0, 0, 0, 0, 0};
+    struct windowfloor_cut_answer answer = {0, 0, 0, 0, 0, 0};
+    struct places lent = {images_places, working_places, list_places, scales_places};
     struct contents contents;
-    if (bytes > WINDOWFLOOR_MOST_JOB_BYTES)
-        answer.number = WINDOWFLOOR_JOB_TOO_LONG;
-    else if (images_places < WINDOWFLOOR_JOB_IMAGES || working_places < WINDOWFLOOR_JOB_WORKING
-             || list_places < WINDOWFLOOR_JOB_LIST || scales_places < WINDOWFLOOR_JOB_SCALES
-             || blocks_places < WINDOWFLOOR_JOB_BLOCKS)
-        answer.number = WINDOWFLOOR_SHORT_BUFFER;
-    else
-        answer.number = read_fields(job, bytes, &contents);
+    uint32_t reached[WINDOWFLOOR_MOST_ROWS];
+    answer.number = read_job(job, bytes, lent, &by_cut, &contents);
     if (answer.number == 0)
-        run_lists(parts, &contents, images, working, list, scales, blocks, &answer);
+        run_lists(parts, &contents, images, working, list, reached, &answer);
+    if (answer.number == 0 && contents.kind == WINDOWFLOOR_KIND_ROWS)
+        memcpy(scales, reached, contents.lists * sizeof *scales);
     return answer;
 }
 

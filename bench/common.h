@@ -133,12 +133,17 @@ struct windowfloor_table_answer check_table(const struct parts *parts,
                                             uint64_t *working, size_t working_places,
                                             uint32_t *list, size_t list_places);
 
-struct windowfloor_job_answer run_job(const struct parts *parts, const uint8_t *job, size_t bytes,
+struct windowfloor_floor_answer run_floor(const struct parts *parts, const uint8_t *job, size_t bytes,
+                                          uint32_t *images, size_t images_places,
+                                          uint64_t *working, size_t working_places,
+                                          uint32_t *list, size_t list_places,
+                                          uint32_t *blocks, size_t blocks_places);
+
+struct windowfloor_cut_answer run_cut(const struct parts *parts, const uint8_t *job, size_t bytes,
                                       uint32_t *images, size_t images_places,
                                       uint64_t *working, size_t working_places,
                                       uint32_t *list, size_t list_places,
-                                      uint32_t *scales, size_t scales_places,
-                                      uint32_t *blocks, size_t blocks_places);
+                                      uint32_t *scales, size_t scales_places);
 
 struct windowfloor_sweep_answer run_sweep(const struct parts *parts, uint64_t capacity,
                                           uint8_t family, const uint32_t *sizes, size_t n,

@@ -440,26 +440,54 @@ static void write_model(struct job *job, const struct model *model)
         put_step(job, model->step[i]);
 }
 
-static struct windowfloor_job_answer run_job(const struct job *job, uint32_t *images,
-                                             uint32_t *scales, uint32_t *blocks)
+/* Running a job */
+
+/* What an accepted job leaves: the images, and the answer and the buffer of the operation that took it. */
+struct result {
+    struct windowfloor_floor_answer floor;
+    struct windowfloor_cut_answer cut;
+    uint32_t images[WINDOWFLOOR_JOB_IMAGES];
+    uint32_t blocks[WINDOWFLOOR_JOB_BLOCKS], scales[WINDOWFLOOR_JOB_SCALES];
+};
+
+static uint64_t working[WINDOWFLOOR_JOB_WORKING];
+static uint32_t counterexample[WINDOWFLOOR_JOB_LIST];
+
+static void run_floor(const struct job *job, struct result *result)
 {
-    static uint64_t working[WINDOWFLOOR_JOB_WORKING];
-    static uint32_t counterexample[WINDOWFLOOR_JOB_LIST];
-    struct windowfloor_job_answer answer =
-        windowfloor_job(job->bytes, job->length, images, WINDOWFLOOR_JOB_IMAGES, working,
-                        WINDOWFLOOR_JOB_WORKING, counterexample, WINDOWFLOOR_JOB_LIST, scales,
-                        WINDOWFLOOR_JOB_SCALES, blocks, WINDOWFLOOR_JOB_BLOCKS);
-    stop_if_refused("job", answer.number, answer.row, answer.step);
-    return answer;
+    result->floor =
+        windowfloor_floor(job->bytes, job->length, result->images, WINDOWFLOOR_JOB_IMAGES, working,
+                          WINDOWFLOOR_JOB_WORKING, counterexample, WINDOWFLOOR_JOB_LIST, result->blocks,
+                          WINDOWFLOOR_JOB_BLOCKS);
+    stop_if_refused("job", result->floor.number, result->floor.row, result->floor.step);
 }
 
-static struct windowfloor_job_answer run_list(uint8_t kind, const struct list *list, struct step step,
-                                              uint32_t *images, uint32_t *blocks)
+static void run_cut(const struct job *job, struct result *result)
+{
+    result->cut =
+        windowfloor_cut(job->bytes, job->length, result->images, WINDOWFLOOR_JOB_IMAGES, working,
+                        WINDOWFLOOR_JOB_WORKING, counterexample, WINDOWFLOOR_JOB_LIST, result->scales,
+                        WINDOWFLOOR_JOB_SCALES);
+    stop_if_refused("job", result->cut.number, result->cut.row, result->cut.step);
+}
+
+/* The fourth byte of a job is its kind: 2 and 3 are for the cut operation, all else for the floor operation. */
+static void run_job(const struct job *job, struct result *result)
+{
+    uint8_t kind = job->bytes[3];
+    if (kind == WINDOWFLOOR_KIND_CUT || kind == WINDOWFLOOR_KIND_ROWS)
+        run_cut(job, result);
+    else
+        run_floor(job, result);
+}
+
+static const struct result *run_list(uint8_t kind, const struct list *list, struct step step)
 {
     static struct job job;
-    static uint32_t scales[WINDOWFLOOR_JOB_SCALES]; /* kinds 1 and 2 leave it as it is */
+    static struct result result;
     write_list(&job, kind, list, step);
-    return run_job(&job, images, scales, blocks);
+    run_job(&job, &result);
+    return &result;
 }
 
 /* The sweeps. From 1 on, the p of a family that are legal with a scale within the limit are one run of
@@ -640,13 +668,20 @@ static void print_fewest_of_blocks(const struct list *list)
     printf("fewest windows of all blocks: %" PRIu64 "\n", total);
 }
 
+/* The cut that the step makes of the sizes as a row. */
+static void print_cut(const struct list *list, struct step step)
+{
+    const struct result *result = run_list(WINDOWFLOOR_KIND_CUT, list, step);
+    printf("cut:");
+    print_row(result->images, result->cut.n, result->cut.scale);
+}
+
 static void plan_list(const struct list *list)
 {
-    static uint32_t images[WINDOWFLOOR_JOB_IMAGES], floors[WINDOWFLOOR_JOB_BLOCKS];
     struct step none = {0, 0, 0, 0};
     if (list->capacity > UINT32_MAX)
         stop_if_refused("job", WINDOWFLOOR_BAD_CAPACITY, 0, 0); /* a job has four bytes for it */
-    uint64_t without = run_list(WINDOWFLOOR_KIND_FLOOR, list, none, images, floors).floor;
+    uint64_t without = run_list(WINDOWFLOOR_KIND_FLOOR, list, none)->floor.floor;
     print_list(list);
     printf("  %-19s           floor %" PRIu64 "\n", families[0], without);
     struct step best = best_step(list, without);
@@ -654,14 +689,12 @@ static void plan_list(const struct list *list)
     if (is_short(list))
         print_fewest(list, 0, list->n);
     if (has_blocks(list)) {
-        uint64_t total = run_list(WINDOWFLOOR_KIND_FLOOR, list, best, images, floors).total;
-        print_floors(floors, list->ended + 1, total);
+        const struct result *result = run_list(WINDOWFLOOR_KIND_FLOOR, list, best);
+        print_floors(result->blocks, list->ended + 1, result->floor.total);
         if (is_short(list))
             print_fewest_of_blocks(list);
     }
-    struct windowfloor_job_answer cut = run_list(WINDOWFLOOR_KIND_CUT, list, best, images, floors);
-    printf("cut:");
-    print_row(images, cut.n, cut.scale);
+    print_cut(list, best);
     if (best.family != 0)
         print_half(list, best);
 }
@@ -670,17 +703,16 @@ static void plan_list(const struct list *list)
 static void plan_model(const struct model *model)
 {
     static struct job job;
-    static uint32_t images[WINDOWFLOOR_JOB_IMAGES], scales[WINDOWFLOOR_JOB_SCALES];
-    static uint32_t floors[WINDOWFLOOR_JOB_BLOCKS]; /* kinds 2 and 3 leave it as it is */
+    static struct result result;
     write_model(&job, model);
-    run_job(&job, images, scales, floors);
+    run_job(&job, &result);
     printf("%zu rows, %zu steps\n", model->rows, model->steps);
     for (size_t i = 0; i < model->rows; i++) {
         struct row row = model->row[i];
         printf("row %zu:", i + 1);
         print_row(model->coefficients + row.first, row.n, row.right_side);
         printf("  cut:");
-        print_row(images + row.first, row.n, scales[i]);
+        print_row(result.images + row.first, row.n, result.scales[i]);
     }
 }
 

@@ -20,7 +20,7 @@ extern "C" {
 #endif
 
 /* The version of this header and of the library: CHANGELOG.md says what came with it. */
-#define WINDOWFLOOR_VERSION "4.2.0"
+#define WINDOWFLOOR_VERSION "5.0.0"
 
 /* Limits: unsigned constants. Twice the first of them takes 64 bits. */
 #define WINDOWFLOOR_LIMIT 4000000000u     /* the greatest capacity, parameter, scale and table entry */
@@ -38,8 +38,8 @@ extern "C" {
 #define WINDOWFLOOR_JOB_IMAGES 2048u      /* least places of a job's image buffer, whatever the job */
 #define WINDOWFLOOR_JOB_WORKING 2048u     /* least places of a job's working buffer */
 #define WINDOWFLOOR_JOB_LIST 2047u        /* least places of a job's list buffer */
-#define WINDOWFLOOR_JOB_SCALES 64u        /* least places of a job's buffer for scales */
-#define WINDOWFLOOR_JOB_BLOCKS 64u        /* least places of a job's buffer for block floors */
+#define WINDOWFLOOR_JOB_SCALES 64u        /* least places of a cut's buffer for scales */
+#define WINDOWFLOOR_JOB_BLOCKS 64u        /* least places of a floor's buffer for block floors */
 #define WINDOWFLOOR_EXACT_WINDOWS 10u     /* least places of the buffer for each copy's window */
 
 /* The bytes of a job: fields of a tag, a two-byte length and a value. Tags 1, 2, 3 once each in this
@@ -55,9 +55,9 @@ enum {
     WINDOWFLOOR_TAG_COUNTS = 7,   /* length 2n, n as in tag 3: counts of the sizes; without it each is 1 */
     WINDOWFLOOR_TAG_BLOCKS = 8,   /* length 2b: the number of sizes of each of b blocks, in list order */
 
-    WINDOWFLOOR_KIND_FLOOR = 1,
-    WINDOWFLOOR_KIND_CUT = 2,
-    WINDOWFLOOR_KIND_ROWS = 3 /* a cut of each row of a model, by the same steps */
+    WINDOWFLOOR_KIND_FLOOR = 1, /* for windowfloor_floor */
+    WINDOWFLOOR_KIND_CUT = 2,   /* for windowfloor_cut, as 3 is */
+    WINDOWFLOOR_KIND_ROWS = 3   /* a cut of each row of a model, by the same steps */
 };
 
 /* The numbers of refusal. windowfloor_refusal_text has the words; its "limit" is WINDOWFLOOR_LIMIT, and a
@@ -79,7 +79,7 @@ enum {
     WINDOWFLOOR_PAST_THE_END = 13, /* a field's header or value */
     WINDOWFLOOR_BAD_TAG = 14,      /* out of place or unknown, a ninth step, or no tag 3 */
     WINDOWFLOOR_BAD_LENGTH = 15,
-    WINDOWFLOOR_BAD_KIND = 16,
+    WINDOWFLOOR_BAD_KIND = 16, /* one that the operation does not take */
     WINDOWFLOOR_BAD_SIZE = 17, /* a row may have coefficients 0 */
     WINDOWFLOOR_OTHER_CAPACITY = 18,
     WINDOWFLOOR_BAD_RANGE = 19,
@@ -111,7 +111,7 @@ static inline const char *windowfloor_refusal_text(uint64_t number)
         "a field runs past the end of the job",
         "a tag is out of place or unknown, or the job ends before its sizes",
         "a field has a wrong length",
-        "the kind is not 1 (floor), 2 (cut) or 3 (rows)",
+        "the kind is not one that the operation takes: 1 for a floor, 2 or 3 (rows) for a cut",
         "a size is 0 in a list, or over the capacity",
         "a table step is of another capacity than the present one",
         "the range of p is empty or too wide",
@@ -149,40 +149,70 @@ struct windowfloor_table_answer windowfloor_table_check(const uint32_t *table, s
                                                         uint64_t *working, size_t working_places,
                                                         uint32_t *list, size_t list_places);
 
-/* A job: the sizes taken through its steps, for a floor or a cut; in kind 3 each row's coefficients, for a
- * cut of each row. In kind 1 each size stands for as many copies as its count says, and tag 8 divides the
- * sizes into blocks that share no windows; all copies of a size are in its block. The buffers have at least
- * the places named above, whatever the kind.
- * Refusals, in order: 12, 7; for each field 13, 14, 15; then 16, 21; then 1, 17, 22, 23; then for each step
- * 2, 3, 4 of a family, or 18, 8, 9, 10, 11 of a table. In kind 3 all from 1 on is asked of row 1, then of
- * row 2, and so on.
- * Accepted: the first n places of `images` hold the images, one for each size whatever its count, those of
- * a row behind those of the row before. In kind 3 the first places of `scales`, one for each row, hold the
- * right sides of the cuts. With tag 8 the first places of `blocks`, one for each block, hold the block
- * floors: of each block the sum of count times image, divided by `scale` and rounded up. Their sum, `total`,
- * is never above the windows of an assignment that keeps the blocks separate, so that no window has copies
- * of two; and `floor` is never above `total`.
- * A refusal leaves `images`, `scales` and `blocks` as they were; kinds 1 and 2 leave `scales`, and all jobs
- * without tag 8 leave `blocks`. `list` is written for 11 alone, as in the table check. Afterwards `working`
- * may hold anything. */
-struct windowfloor_job_answer {
+/* A job: sizes taken through its steps. Its kind tells which operation takes it: windowfloor_floor kind 1,
+ * windowfloor_cut kinds 2 and 3. Both read the fields of every job in the same way, whatever its kind, and
+ * so, where no buffer is too short, give the same 13, 14 and 15; then each gives 16 for a kind that it does
+ * not take. The buffers of each have at least the places named above, whatever the job.
+ * A refusal leaves `images`, `blocks` and `scales` as they were. `list` is written for 11 alone, as in the
+ * table check. Afterwards `working` may hold anything.
+ *
+ * For callers of windowfloor_job, of version 4 and before, which these two replace: where the fourth byte of
+ * a job is 2 or 3, call windowfloor_cut, and for all other jobs, those of under four bytes too,
+ * windowfloor_floor. The arguments stay in their order, but windowfloor_floor has no `scales` and
+ * windowfloor_cut no `blocks`. So do the fields of struct windowfloor_job_answer: a floor answer has all of
+ * them, its `row` always 0; a cut answer has no `floor`, `sum` and `total`. Called so, they give the numbers,
+ * fields and buffers of windowfloor_job, except that 7 does not come from a buffer that is no argument any
+ * more. Called with the other's kind, they give 16 where windowfloor_job went on. */
+
+/* The floor of a list: kind 1. Each size stands for as many copies as its count says, and tag 8 divides the
+ * sizes into blocks that share no windows; all copies of a size are in its block.
+ * Refusals, in order: 12, 7; for each field 13, 14, 15; then 16; then 1, 17, 22, 23; then for each step
+ * 2, 3, 4 of a family, or 18, 8, 9, 10, 11 of a table.
+ * Accepted: the first n places of `images` hold the images, one for each size whatever its count. With tag 8
+ * the first places of `blocks`, one for each block, hold the block floors: of each block the sum of count
+ * times image, divided by `scale` and rounded up. Their sum, `total`, is never above the windows of an
+ * assignment that keeps the blocks separate, so that no window has copies of two; and `floor` is never above
+ * `total`. Jobs without tag 8 leave `blocks` as it was. */
+struct windowfloor_floor_answer {
+    uint64_t number;
+    uint64_t n;      /* the number of sizes */
+    uint64_t floor;  /* no assignment of the copies uses fewer windows */
+    uint64_t sum;    /* the sum of count times image */
+    uint64_t scale;  /* the image of the capacity; `sum` divided by it and rounded up is `floor` */
+    uint64_t step;   /* the place, 1 to 8, of the step that is refused */
+    uint64_t length; /* at 11, the number of sizes in `list` */
+    uint64_t row;    /* always 0: a job of kind 1 has no rows */
+    uint64_t total;  /* the sum of the block floors; without tag 8 it is `floor` */
+};
+
+struct windowfloor_floor_answer windowfloor_floor(const uint8_t *job, size_t bytes,
+                                                  uint32_t *images, size_t images_places,
+                                                  uint64_t *working, size_t working_places,
+                                                  uint32_t *list, size_t list_places,
+                                                  uint32_t *blocks, size_t blocks_places);
+
+/* The cut of a row, kind 2, or of each row of a model, kind 3. The row says that the sizes total at most the
+ * capacity, or the row's right side; its cut, that their images total at most the scale. However many of each
+ * size there are, 0 or more: where they satisfy the row, they satisfy its cut.
+ * Refusals, in order: 12, 7; for each field 13, 14, 15; then 16, 21; then 1, 17; then for each step as in a
+ * floor. In kind 3 all from 1 on is asked of row 1, then of row 2, and so on.
+ * Accepted: the first n places of `images` hold the images, which are the coefficients of the cut; in kind 3
+ * those of a row lie behind those of the row before, and the first places of `scales`, one for each row, hold
+ * the right sides of the cuts. Kind 2 leaves `scales` as it was. */
+struct windowfloor_cut_answer {
     uint64_t number;
     uint64_t n;      /* the number of sizes, or of the coefficients of all rows */
-    uint64_t floor;  /* no assignment of the copies uses fewer windows; 0 for cuts */
-    uint64_t sum;    /* the sum of count times image; 0 for cuts */
-    uint64_t scale;  /* the right side of a cut whose coefficients are the images; 0 in kind 3 */
+    uint64_t scale;  /* the right side of the cut; 0 in kind 3 */
     uint64_t step;   /* the place, 1 to 8, of the step that is refused */
     uint64_t length; /* at 11, the number of sizes in `list` */
     uint64_t row;    /* in kind 3, the place, 1 to 64, of the row that is refused */
-    uint64_t total;  /* the sum of the block floors; without tag 8 it is `floor`, so 0 for cuts */
 };
 
-struct windowfloor_job_answer windowfloor_job(const uint8_t *job, size_t bytes,
+struct windowfloor_cut_answer windowfloor_cut(const uint8_t *job, size_t bytes,
                                               uint32_t *images, size_t images_places,
                                               uint64_t *working, size_t working_places,
                                               uint32_t *list, size_t list_places,
-                                              uint32_t *scales, size_t scales_places,
-                                              uint32_t *blocks, size_t blocks_places);
+                                              uint32_t *scales, size_t scales_places);
 
 /* The largest floor that one step of a family (1 to 5) gives, over all p from low to high that are
  * legal with a scale within the limit, and the least p that gives it. `counts` has one count for each size,

@@ -100,7 +100,7 @@ def turned(path, text, table):
 
 def files(top):
     for folder, folders, names in os.walk(top):
-        folders[:] = sorted(d for d in folders if d not in ("out", ".git", "target", "landings", "request-9"))
+        folders[:] = sorted(d for d in folders if d not in ("out", ".git", "target", "landings"))
         below = os.path.relpath(folder, top)
         for name in sorted(names):
             path = os.path.normpath(os.path.join(below, name))

@@ -6,7 +6,7 @@
  *     compare [SEED [ROUNDS]]
  *
  * A round is 12 images, 6 tables, 9 jobs, 3 sweeps and 3 exact inputs, with a sweep and a job of the list
- * of each that is accepted. */
+ * of each that is accepted. A job goes to the operation that its fourth byte tells, one in three to both. */
 #define _DEFAULT_SOURCE /* for MAP_ANONYMOUS */
 
 #include <stdio.h>
@@ -22,15 +22,17 @@ enum { DEFAULT_SEED = 1, DEFAULT_ROUNDS = 50000 };
 enum { NUMBERS = WINDOWFLOOR_LAST_REFUSAL + 1, STEPS = WINDOWFLOOR_MOST_STEPS + 1 };
 enum { MOST_PRINTED = 16384 }; /* bytes of an input: all of a sweep */
 
-/* Jobs whose fourth byte is 3 are counted as rows; numbers that name a row are counted once more. For 18,
- * which goes before 8 to 11, what the table check says of the table is counted, for each kind. Refusals for
- * a field of tag 7 or 8 are counted for each kind. Jobs with counts are counted once more, and so is what has
- * a count of 0; and jobs with blocks, and with wrong ones. For 22, and for 6 where there are not as many
- * counts as sizes, what the same input would give with ones is counted; for 23, what the job would give
- * without its tag 8. */
+/* Jobs are told apart by their fourth byte. A job counts for the operation that takes it (the floor
+ * operation, if the byte is no kind) or, asked of the other one, for that. Numbers that name a row are
+ * counted once more. For 18, which goes before 8 to 11, what the table check says of the table is counted,
+ * for each kind. Refusals for a field of tag 7 or 8 are counted for each kind. Jobs with counts are counted
+ * once more, and so is what has a count of 0; and jobs with blocks, and with wrong ones. For 22, and for 6
+ * where there are not as many counts as sizes, what the same input would give with ones is counted; for 23,
+ * what the job would give without its tag 8. */
 enum tally {
-    IMAGE, TABLE, JOB, ROWS, SWEEP, EXACT, OPERATIONS,
-    ROW_1 = OPERATIONS, LATER_ROW, BEHIND_18, LAST_BEHIND_18 = BEHIND_18 + 2,
+    IMAGE, TABLE, FLOOR_JOB, CUT_JOB, ROWS_JOB, SWEEP, EXACT, OPERATIONS,
+    FLOOR_TO_CUT = OPERATIONS, NO_KIND_TO_CUT, CUT_TO_FLOOR, ROWS_TO_FLOOR,
+    ROW_1, LATER_ROW, BEHIND_18, LAST_BEHIND_18 = BEHIND_18 + 2,
     AT_TAG_7, LAST_AT_TAG_7 = AT_TAG_7 + 3, AT_TAG_8, LAST_AT_TAG_8 = AT_TAG_8 + 3,
     COUNTED_JOB, COUNT_0_IN_JOB, COUNT_0_IN_SWEEP, COUNT_0_IN_EXACT, BEHIND_22_OF_JOB, BEHIND_22_OF_SWEEP,
     BEHIND_22_OF_EXACT, FEWER_COUNTS, MORE_COUNTS, FEWER_COUNTS_OF_EXACT, MORE_COUNTS_OF_EXACT,
@@ -38,7 +40,9 @@ enum tally {
 };
 
 static const char *const names[TALLIES] = {
-    "image", "table check", "job", "job of rows", "sweep", "exact", "  in row 1", "  later row",
+    "image", "table check", "floor", "cut", "cut of rows", "sweep", "exact",
+    "  floor, to cut", "  no kind, to cut", "  cut, to floor", "  rows, to floor",
+    "  in row 1", "  later row",
     "  floor", "  cut", "  rows", "  floor", "  cut", "  rows", "  no kind",
     "  floor", "  cut", "  rows", "  no kind", "  all", "  job", "  sweep", "  exact",
     "  job", "  sweep", "  exact", "  fewer", "  more", "  fewer", "  more", "  all", "  wrong", "  job",
@@ -89,12 +93,26 @@ static const char *const wrong_names[WRONGS] = {
     "a block of 0", "over 64", "none", "sum under n", "sum over n", "over by 65,536", "several",
 };
 
-/* Jobs refused with 7 for one buffer alone; if it is that of the blocks, by kind. */
-enum buffer { IMAGES, WORKING, LIST, SCALES, BLOCKS, BUFFERS };
+/* The operations that jobs go to, and what each counts a job of a kind as. */
+enum job_operation { TO_FLOOR, TO_CUT, JOB_OPERATIONS };
 enum kind { KIND_FLOOR, KIND_CUT, KIND_ROWS, NO_KIND, KINDS };
 
-static const char *const buffer_names[BUFFERS] = {"images", "working", "list", "scales", "blocks"};
+static const char *const operation_names[JOB_OPERATIONS] = {"  floor", "  cut  "};
 static const char *const kind_names[KINDS] = {"floor", "cut", "rows", "no kind"};
+static const enum tally tally_of[JOB_OPERATIONS][KINDS] = {
+    [TO_FLOOR] = {FLOOR_JOB, CUT_TO_FLOOR, ROWS_TO_FLOOR, FLOOR_JOB},
+    [TO_CUT] = {FLOOR_TO_CUT, CUT_JOB, ROWS_JOB, NO_KIND_TO_CUT},
+};
+
+/* Jobs refused with 7 for one buffer alone, by operation; if it is the operation's own, by kind too. */
+enum buffer { IMAGES, WORKING, LIST, OWN, BUFFERS };
+
+static const char *const buffer_names[BUFFERS] = {"images", "working", "list", "own"};
+
+/* Jobs that the cut operation refuses with 21 and the floor operation with 16. */
+enum bad_rows { NO_ROW, MANY_ROWS, MANY_COEFFICIENTS, BAD_ROWS };
+
+static const char *const bad_rows_names[BAD_ROWS] = {"no row", "over 64", "over 2,048 coefficients"};
 
 /* Accepted exact inputs: one can be of several sorts. First fit puts each copy into the first window that has
  * room; decreasing, it takes the larger copies first. */
@@ -214,7 +232,8 @@ static unsigned long accepted_shapes[SHAPES];
 static unsigned long rounded[QUOTIENTS][REMAINDERS];
 static unsigned long counted[2][SORTS]; /* jobs, sweeps */
 static unsigned long in_blocks[BLOCK_SORTS], wrong_blocks[WRONGS];
-static unsigned long short_buffers[BUFFERS], short_blocks[KINDS];
+static unsigned long short_buffers[JOB_OPERATIONS][BUFFERS], short_own[JOB_OPERATIONS][KINDS];
+static unsigned long beside_21[BAD_ROWS];
 static unsigned long halves[HALVES];
 static unsigned long wide_images[WINDOWFLOOR_FAMILIES + 1][WIDES];
 static unsigned long refused_wide_images[WINDOWFLOOR_FAMILIES + 1][REFUSED_WIDES];
@@ -278,7 +297,7 @@ struct lent {
 };
 
 struct lent_to_job {
-    struct lent images, working, list, scales, blocks;
+    struct lent images, working, list, own;
 };
 
 static uint64_t pattern[PATTERN_BYTES / 8];
@@ -550,6 +569,12 @@ static int is_rows(const struct job_input *in)
     return kind_of(in) == KIND_ROWS;
 }
 
+/* The operation that takes the job. */
+static enum job_operation taker_of(const struct job_input *in)
+{
+    return tally_of[TO_FLOOR][kind_of(in)] == FLOOR_JOB ? TO_FLOOR : TO_CUT;
+}
+
 static size_t value_bytes(const struct job_input *in, size_t at)
 {
     return (size_t)in->bytes[at + 1] * 256 + in->bytes[at + 2];
@@ -569,7 +594,15 @@ static size_t steps_of(const struct job_input *in)
     return fields_of(in, WINDOWFLOOR_TAG_FAMILY, WINDOWFLOOR_TAG_TABLE);
 }
 
-static void count_step(const struct job_input *in, const struct windowfloor_job_answer *answer)
+/* The answer of a cut has what both answers have. */
+static struct windowfloor_cut_answer part_of(const struct windowfloor_floor_answer *answer)
+{
+    struct windowfloor_cut_answer part = {answer->number, answer->n,      answer->scale,
+                                          answer->step,   answer->length, answer->row};
+    return part;
+}
+
+static void count_step(const struct job_input *in, const struct windowfloor_cut_answer *answer)
 {
     int accepted = answer->number == 0;
     unsigned long *counts = accepted ? accepted_steps[is_rows(in)] : refused_step[is_rows(in)];
@@ -657,15 +690,14 @@ static void count_sorts(unsigned long *sorts, const uint16_t *counts, size_t n, 
         sum == (uint64_t)WINDOWFLOOR_MOST_SIZES * WINDOWFLOOR_MOST_COUNT * WINDOWFLOOR_LIMIT;
 }
 
-/* The number that the reference gives for a job. */
+/* The number that the reference gives for a floor job. */
 static uint64_t number_of(const uint8_t *job, size_t bytes)
 {
     static uint64_t working[WINDOWFLOOR_JOB_WORKING];
     static uint32_t images[WINDOWFLOOR_JOB_IMAGES], list[WINDOWFLOOR_JOB_LIST],
-        scales[WINDOWFLOOR_JOB_SCALES], blocks[WINDOWFLOOR_JOB_BLOCKS];
-    return reference_job(job, bytes, images, WINDOWFLOOR_JOB_IMAGES, working, WINDOWFLOOR_JOB_WORKING,
-                         list, WINDOWFLOOR_JOB_LIST, scales, WINDOWFLOOR_JOB_SCALES, blocks,
-                         WINDOWFLOOR_JOB_BLOCKS).number;
+        blocks[WINDOWFLOOR_JOB_BLOCKS];
+    return reference_floor(job, bytes, images, WINDOWFLOOR_JOB_IMAGES, working, WINDOWFLOOR_JOB_WORKING,
+                           list, WINDOWFLOOR_JOB_LIST, blocks, WINDOWFLOOR_JOB_BLOCKS).number;
 }
 
 /* What the job's number would be if each of its counts, which start there, were 1. */
@@ -688,7 +720,7 @@ static uint64_t job_without(const struct job_input *in, size_t at)
     return number_of(bytes, in->length - (end - at));
 }
 
-static void count_counted(const struct job_input *in, const struct windowfloor_job_answer *answer)
+static void count_counted(const struct job_input *in, const struct windowfloor_floor_answer *answer)
 {
     static uint16_t counts[WINDOWFLOOR_MOST_SIZES];
     size_t at = field_at(in, WINDOWFLOOR_TAG_COUNTS);
@@ -747,12 +779,12 @@ static void count_refused_field(const struct job_input *in, uint64_t number)
         seen[AT_TAG_8 + kind_of(in)][number]++;
 }
 
-static void count_short_buffer(const struct job_input *in)
+static void count_short_buffer(enum job_operation operation, const struct job_input *in)
 {
     const int is_short[BUFFERS] = {
         in->images_places < WINDOWFLOOR_JOB_IMAGES, in->working_places < WINDOWFLOOR_JOB_WORKING,
-        in->list_places < WINDOWFLOOR_JOB_LIST, in->scales_places < WINDOWFLOOR_JOB_SCALES,
-        in->blocks_places < WINDOWFLOOR_JOB_BLOCKS,
+        in->list_places < WINDOWFLOOR_JOB_LIST,
+        in->own_places < (operation == TO_FLOOR ? WINDOWFLOOR_JOB_BLOCKS : WINDOWFLOOR_JOB_SCALES),
     };
     int all = 0, last = 0;
     for (int buffer = 0; buffer < BUFFERS; buffer++) {
@@ -761,27 +793,20 @@ static void count_short_buffer(const struct job_input *in)
     }
     if (all > 1)
         return;
-    short_buffers[last]++;
-    if (last == BLOCKS)
-        short_blocks[kind_of(in)]++;
+    short_buffers[operation][last]++;
+    if (last == OWN)
+        short_own[operation][kind_of(in)]++;
 }
 
-/* Refusals of the whole job or of its buffers leave its fields unread. */
-static void count_fields(const struct job_input *in, const struct windowfloor_job_answer *answer)
+static int is_of_field(uint64_t number)
 {
-    switch (answer->number) {
-    case WINDOWFLOOR_JOB_TOO_LONG:
-        break;
-    case WINDOWFLOOR_SHORT_BUFFER:
-        count_short_buffer(in);
-        break;
-    case WINDOWFLOOR_PAST_THE_END: case WINDOWFLOOR_BAD_TAG: case WINDOWFLOOR_BAD_LENGTH:
-        count_refused_field(in, answer->number);
-        break;
-    default:
-        count_counted(in, answer);
-        count_blocks(in, answer->number);
-    }
+    return number >= WINDOWFLOOR_PAST_THE_END && number <= WINDOWFLOOR_BAD_LENGTH;
+}
+
+/* Whether the number is told before the kind is asked for. */
+static int is_early(uint64_t number)
+{
+    return number == WINDOWFLOOR_JOB_TOO_LONG || number == WINDOWFLOOR_SHORT_BUFFER || is_of_field(number);
 }
 
 /* Where a step starts, counted from 1, in a job that has so many. */
@@ -876,7 +901,7 @@ static void count_capacity_border(const struct job_input *in, uint64_t row, uint
 }
 
 /* Of a job that is refused for the limit, or for p or q. */
-static void count_refused_border(const struct job_input *in, const struct windowfloor_job_answer *answer)
+static void count_refused_border(const struct job_input *in, const struct windowfloor_cut_answer *answer)
 {
     switch (answer->number) {
     case WINDOWFLOOR_BAD_CAPACITY:
@@ -914,7 +939,7 @@ static void count_block(const uint32_t *images, const uint16_t *counts, size_t n
 static void count_each_block(const uint16_t *blocks, size_t count, struct lent_to_job *lent,
                              const uint16_t *counts, uint64_t scale)
 {
-    const uint32_t *images = library_places(&lent->images), *floors = library_places(&lent->blocks);
+    const uint32_t *images = library_places(&lent->images), *floors = library_places(&lent->own);
     for (size_t i = 0; i < count; i++) {
         count_block(images, counts, blocks[i], scale, floors[i]);
         images += blocks[i];
@@ -922,7 +947,7 @@ static void count_each_block(const uint16_t *blocks, size_t count, struct lent_t
     }
 }
 
-static void count_accepted_blocks(const struct job_input *in, const struct windowfloor_job_answer *answer,
+static void count_accepted_blocks(const struct job_input *in, const struct windowfloor_floor_answer *answer,
                                   struct lent_to_job *lent)
 {
     static uint16_t blocks[WINDOWFLOOR_MOST_BLOCKS], counts[WINDOWFLOOR_MOST_SIZES];
@@ -941,17 +966,13 @@ static void count_accepted_blocks(const struct job_input *in, const struct windo
     in_blocks[TOTAL_OVER_FLOOR] += count > 1 && answer->total > answer->floor;
 }
 
-static void count_accepted(const struct job_input *in, const struct windowfloor_job_answer *answer,
+static void count_accepted(const struct job_input *in, const struct windowfloor_cut_answer *answer,
                            struct lent_to_job *lent)
 {
-    count_shape(in, library_places(&lent->scales));
+    count_shape(in, library_places(&lent->own));
     count_capacity_border(in, 1, 0);
     count_steps(in);
     count_wide_job(in, library_places(&lent->images), answer->n);
-    if (kind_of(in) != KIND_FLOOR)
-        return;
-    count_rounded(OF_JOB, answer->sum, answer->scale);
-    count_accepted_blocks(in, answer, lent);
 }
 
 /* What the table check says of the table that this step is. */
@@ -964,8 +985,10 @@ static uint64_t check_step(const struct job_input *in, uint64_t step)
                                  WINDOWFLOOR_JOB_LIST).number;
 }
 
-static void count_refusal(const struct job_input *in, const struct windowfloor_job_answer *answer)
+static void count_refusal(const struct job_input *in, const struct windowfloor_cut_answer *answer)
 {
+    if (is_of_field(answer->number))
+        count_refused_field(in, answer->number);
     if (answer->row > 0)
         seen[answer->row == 1 ? ROW_1 : LATER_ROW][answer->number]++;
     if (answer->number == WINDOWFLOOR_OTHER_CAPACITY)
@@ -973,54 +996,137 @@ static void count_refusal(const struct job_input *in, const struct windowfloor_j
     count_refused_border(in, answer);
 }
 
-static void lend_to_job(struct lent_to_job *lent, const struct job_input *in)
+/* Lends the buffers, and answers where the job lies. */
+static const uint8_t *lend_to_job(struct lent_to_job *lent, const struct job_input *in)
 {
     lend(&lent->images, sizeof(uint32_t), in->images_places);
     lend(&lent->working, sizeof(uint64_t), in->working_places);
     lend(&lent->list, sizeof(uint32_t), in->list_places);
-    lend(&lent->scales, sizeof(uint32_t), in->scales_places);
-    lend(&lent->blocks, sizeof(uint32_t), in->blocks_places);
+    lend(&lent->own, sizeof(uint32_t), in->own_places);
+    return at_edge(first_edge, in->bytes, in->length);
 }
 
 static int same_after_job(const struct lent_to_job *lent)
 {
     return same_buffers(&lent->images) && same_margins(&lent->working) && same_buffers(&lent->list)
-        && same_buffers(&lent->scales) && same_buffers(&lent->blocks);
+        && same_buffers(&lent->own);
 }
 
-static void count_job(const struct job_input *in, const struct windowfloor_job_answer *answer,
-                      struct lent_to_job *lent)
+/* A job that lies there. */
+static void judge_job(enum job_operation operation, const struct job_input *in, const uint8_t *job,
+                      const struct lent_to_job *lent, const void *library, const void *reference,
+                      size_t answer_bytes)
 {
+    judge(tally_of[operation][kind_of(in)], library, reference, answer_bytes,
+          same_after_job(lent) && memcmp(job, in->bytes, in->length) == 0, in->bytes, in->length);
+}
+
+/* The other operation tells no more of a job than its number, and which buffer is short. */
+static void count_job(enum job_operation operation, const struct job_input *in,
+                      const struct windowfloor_cut_answer *answer, struct lent_to_job *lent)
+{
+    if (answer->number == WINDOWFLOOR_SHORT_BUFFER)
+        count_short_buffer(operation, in);
+    if (operation != taker_of(in))
+        return;
     count_step(in, answer);
-    count_fields(in, answer);
     if (answer->number == 0)
         count_accepted(in, answer, lent);
     else
         count_refusal(in, answer);
 }
 
-/* Answers the floor. */
-static uint64_t compare_job(const struct job_input *in)
+/* What only the floor operation tells, of a job that it takes. */
+static void count_floor(const struct job_input *in, const struct windowfloor_floor_answer *answer,
+                        struct lent_to_job *lent)
+{
+    if (is_early(answer->number))
+        return;
+    count_counted(in, answer);
+    count_blocks(in, answer->number);
+    if (answer->number != 0)
+        return;
+    count_rounded(OF_JOB, answer->sum, answer->scale);
+    count_accepted_blocks(in, answer, lent);
+}
+
+static struct windowfloor_floor_answer compare_floor_job(const struct job_input *in)
 {
     static struct lent_to_job lent;
-    const uint8_t *job = at_edge(first_edge, in->bytes, in->length);
-    lend_to_job(&lent, in);
-    struct windowfloor_job_answer library =
-        windowfloor_job(job, in->length, library_places(&lent.images), in->images_places,
+    const uint8_t *job = lend_to_job(&lent, in);
+    struct windowfloor_floor_answer library =
+        windowfloor_floor(job, in->length, library_places(&lent.images), in->images_places,
+                          library_places(&lent.working), in->working_places,
+                          library_places(&lent.list), in->list_places,
+                          library_places(&lent.own), in->own_places);
+    struct windowfloor_floor_answer reference =
+        reference_floor(job, in->length, reference_places(&lent.images), in->images_places,
+                        reference_places(&lent.working), in->working_places,
+                        reference_places(&lent.list), in->list_places,
+                        reference_places(&lent.own), in->own_places);
+    struct windowfloor_cut_answer part = part_of(&library);
+    judge_job(TO_FLOOR, in, job, &lent, &library, &reference, sizeof library);
+    count_job(TO_FLOOR, in, &part, &lent);
+    if (taker_of(in) == TO_FLOOR)
+        count_floor(in, &library, &lent);
+    return library;
+}
+
+static struct windowfloor_cut_answer compare_cut_job(const struct job_input *in)
+{
+    static struct lent_to_job lent;
+    const uint8_t *job = lend_to_job(&lent, in);
+    struct windowfloor_cut_answer library =
+        windowfloor_cut(job, in->length, library_places(&lent.images), in->images_places,
                         library_places(&lent.working), in->working_places,
                         library_places(&lent.list), in->list_places,
-                        library_places(&lent.scales), in->scales_places,
-                        library_places(&lent.blocks), in->blocks_places);
-    struct windowfloor_job_answer reference =
-        reference_job(job, in->length, reference_places(&lent.images), in->images_places,
+                        library_places(&lent.own), in->own_places);
+    struct windowfloor_cut_answer reference =
+        reference_cut(job, in->length, reference_places(&lent.images), in->images_places,
                       reference_places(&lent.working), in->working_places,
                       reference_places(&lent.list), in->list_places,
-                      reference_places(&lent.scales), in->scales_places,
-                      reference_places(&lent.blocks), in->blocks_places);
-    judge(is_rows(in) ? ROWS : JOB, &library, &reference, sizeof library,
-          same_after_job(&lent) && memcmp(job, in->bytes, in->length) == 0, in->bytes, in->length);
-    count_job(in, &library, &lent);
-    return library.floor;
+                      reference_places(&lent.own), in->own_places);
+    judge_job(TO_CUT, in, job, &lent, &library, &reference, sizeof library);
+    count_job(TO_CUT, in, &library, &lent);
+    return library;
+}
+
+/* By the operation that takes it. */
+static void compare_job(const struct job_input *in)
+{
+    if (taker_of(in) == TO_FLOOR)
+        compare_floor_job(in);
+    else
+        compare_cut_job(in);
+}
+
+/* Whether the numbers of the two operations go together: what is told before the kind is asked for is the
+ * same, and of the kind one gives 16, or both. */
+static int go_together(enum kind kind, uint64_t floor, uint64_t cut)
+{
+    if (is_early(floor) || is_early(cut))
+        return floor == cut;
+    return (floor == WINDOWFLOOR_BAD_KIND) == (kind != KIND_FLOOR)
+        && (cut == WINDOWFLOOR_BAD_KIND) == (kind == KIND_FLOOR || kind == NO_KIND);
+}
+
+static void count_bad_rows(const struct job_input *in)
+{
+    size_t rows = fields_of(in, WINDOWFLOOR_TAG_ROW, WINDOWFLOOR_TAG_ROW);
+    beside_21[rows == 0 ? NO_ROW : rows > WINDOWFLOOR_MOST_ROWS ? MANY_ROWS : MANY_COEFFICIENTS]++;
+}
+
+static void compare_both(const struct job_input *in)
+{
+    uint64_t floor = compare_floor_job(in).number, cut = compare_cut_job(in).number;
+    if (!go_together(kind_of(in), floor, cut)) {
+        printf("the floor operation gives %lu and the cut operation %lu\n", (unsigned long)floor,
+               (unsigned long)cut);
+        print_bytes(in->bytes, in->length);
+        exit(1);
+    }
+    if (cut == WINDOWFLOOR_BAD_ROWS)
+        count_bad_rows(in);
 }
 
 /* Of the floor that a sweep has found: its quotient and counts, and its p. */
@@ -1179,7 +1285,7 @@ static void compare_floors(const struct exact_input *in, uint64_t fewest)
     sweep_of_list(&sweep, in->capacity, &in->list);
     compare_floor(in, FLOOR_OF_SWEEP, compare_sweep(&sweep), fewest);
     job_of_list(&job, in->capacity, &in->list);
-    compare_floor(in, FLOOR_OF_JOB, compare_job(&job), fewest);
+    compare_floor(in, FLOOR_OF_JOB, compare_floor_job(&job).floor, fewest);
 }
 
 /* Whether the library shows an assignment. Which it is is free, so its places become the reference's. */
@@ -1240,7 +1346,7 @@ static void compare_lengths(unsigned kind, size_t from, size_t to)
     for (unsigned tag = WINDOWFLOOR_TAG_KIND; tag <= WINDOWFLOOR_TAG_BLOCKS; tag++)
         for (size_t length = from; length <= to; length++) {
             job_of_length(&job, kind, tag, length);
-            compare_job(&job);
+            compare_both(&job);
         }
 }
 
@@ -1256,7 +1362,7 @@ static void compare_rows(void)
     for (size_t i = 0; i < sizeof shapes / sizeof *shapes; i++)
         for (size_t k = 0; k < sizeof faults / sizeof *faults; k++) {
             job_of_rows(&job, shapes[i][0], shapes[i][1], faults[k]);
-            compare_job(&job);
+            compare_both(&job);
         }
 }
 
@@ -1272,9 +1378,9 @@ static void compare_counts(unsigned kind, size_t n)
     for (size_t i = 0; i < sizeof orders / sizeof *orders; i++)
         for (size_t k = 0; k < sizeof lengths / sizeof *lengths; k++) {
             job_of_tags(&job, orders[i], kind, n, lengths[k], 0);
-            compare_job(&job);
+            compare_both(&job);
             job.length--;
-            compare_job(&job);
+            compare_both(&job);
         }
 }
 
@@ -1296,9 +1402,9 @@ static void compare_orders(const char *const *orders, unsigned kind, size_t n)
     for (; *orders != NULL; orders++)
         for (size_t k = 0; k < sizeof lengths / sizeof *lengths; k++) {
             job_of_tags(&job, *orders, kind, n, 2 * n, lengths[k]);
-            compare_job(&job);
+            compare_both(&job);
             job.length--;
-            compare_job(&job);
+            compare_both(&job);
         }
 }
 
@@ -1332,7 +1438,7 @@ static void compare_numbers_of_blocks(void)
     static struct job_input job;
     for (size_t i = 0; i < sizeof lists / sizeof *lists; i++) {
         job_of_blocks(&job, lists[i].n, lists[i].blocks, lists[i].count);
-        compare_job(&job);
+        compare_both(&job);
     }
 }
 
@@ -1342,7 +1448,7 @@ static void compare_longest_blocks(void)
     static struct job_input job;
     for (size_t length = 65516; length <= 65519; length++) {
         job_of_tags(&job, "1238", WINDOWFLOOR_KIND_FLOOR, 0, 0, length);
-        compare_job(&job);
+        compare_both(&job);
     }
 }
 
@@ -1351,12 +1457,12 @@ static void compare_largest_blocks(void)
     static const size_t numbers[] = {1, 2, 63, 64};
     static struct job_input job;
     largest_job_of_blocks(&job);
-    compare_job(&job);
+    compare_both(&job);
     longest_chain_of_blocks(&job);
-    compare_job(&job);
+    compare_both(&job);
     for (size_t i = 0; i < sizeof numbers / sizeof *numbers; i++) {
         greatest_sum(&job, numbers[i]);
-        compare_job(&job);
+        compare_both(&job);
     }
 }
 
@@ -1382,7 +1488,24 @@ static void compare_chains_at_limit(void)
     static struct job_input job;
     for (unsigned kind = WINDOWFLOOR_KIND_FLOOR; kind <= WINDOWFLOOR_KIND_ROWS; kind++) {
         chain_at_limit(&job, kind);
-        compare_job(&job);
+        compare_both(&job);
+    }
+}
+
+/* Of every kind, and of none: jobs that are too long, and own buffers about the least. */
+static void compare_early(void)
+{
+    static const size_t places[] = {0, 1, 63, 64, 65};
+    static struct job_input job;
+    for (unsigned kind = 0; kind < 5; kind++) {
+        largest_job(&job, WINDOWFLOOR_MOST_JOB_BYTES + 1);
+        job.bytes[3] = (uint8_t)kind;
+        compare_both(&job);
+        for (size_t i = 0; i < sizeof places / sizeof *places; i++) {
+            job_of_length(&job, kind, WINDOWFLOOR_TAG_KIND, 1);
+            job.own_places = places[i];
+            compare_both(&job);
+        }
     }
 }
 
@@ -1393,20 +1516,20 @@ static void compare_largest(void)
     memset(&sweep, 0, sizeof sweep);
     for (size_t bytes = 65534; bytes <= 65536; bytes++) {
         largest_job(&job, bytes);
-        compare_job(&job);
+        compare_both(&job);
     }
     largest_counted_job(&job);
-    compare_job(&job);
+    compare_both(&job);
     largest_rows(&job);
-    compare_job(&job);
+    compare_both(&job);
     for (int with_counts = 0; with_counts < 2; with_counts++) {
         longest_chain(&job, with_counts);
-        compare_job(&job);
+        compare_both(&job);
     }
     longest_chain_of_rows(&job);
-    compare_job(&job);
+    compare_both(&job);
     greatest_sum(&job, 0);
-    compare_job(&job);
+    compare_both(&job);
     for (uint8_t family = 1; family <= WINDOWFLOOR_SWEEP_FAMILIES; family++) {
         largest_sweep(&sweep, family);
         compare_sweep(&sweep);
@@ -1426,7 +1549,10 @@ static void compare_round(void)
         compare_table();
     for (int i = 0; i < 9; i++) {
         random_job(&job);
-        compare_job(&job);
+        if (below(3) == 0)
+            compare_both(&job);
+        else
+            compare_job(&job);
     }
     for (int i = 0; i < 3; i++) {
         random_sweep(&sweep);
@@ -1444,11 +1570,17 @@ static void compare_round(void)
 static const unsigned char due[TALLIES][NUMBERS] = {
     [IMAGE] = {[0] = 1, [1] = 1, [2] = 1, [3] = 1, [4] = 1, [5] = 1},
     [TABLE] = {[0] = 1, [6] = 1, [7] = 1, [8] = 1, [9] = 1, [10] = 1, [11] = 1},
-    [JOB] = {[0] = 1, [1] = 1, [2] = 1, [3] = 1, [4] = 1, [7] = 1, [8] = 1, [9] = 1, [10] = 1,
-             [11] = 1, [12] = 1, [13] = 1, [14] = 1, [15] = 1, [16] = 1, [17] = 1, [18] = 1, [22] = 1,
-             [23] = 1},
-    [ROWS] = {[0] = 1, [1] = 1, [2] = 1, [3] = 1, [4] = 1, [7] = 1, [8] = 1, [9] = 1, [10] = 1,
-              [11] = 1, [12] = 1, [13] = 1, [14] = 1, [15] = 1, [17] = 1, [18] = 1, [21] = 1},
+    [FLOOR_JOB] = {[0] = 1, [1] = 1, [2] = 1, [3] = 1, [4] = 1, [7] = 1, [8] = 1, [9] = 1, [10] = 1,
+                   [11] = 1, [12] = 1, [13] = 1, [14] = 1, [15] = 1, [16] = 1, [17] = 1, [18] = 1, [22] = 1,
+                   [23] = 1},
+    [CUT_JOB] = {[0] = 1, [1] = 1, [2] = 1, [3] = 1, [4] = 1, [7] = 1, [8] = 1, [9] = 1, [10] = 1,
+                 [11] = 1, [12] = 1, [13] = 1, [14] = 1, [15] = 1, [17] = 1, [18] = 1},
+    [ROWS_JOB] = {[0] = 1, [1] = 1, [2] = 1, [3] = 1, [4] = 1, [7] = 1, [8] = 1, [9] = 1, [10] = 1,
+                  [11] = 1, [12] = 1, [13] = 1, [14] = 1, [15] = 1, [17] = 1, [18] = 1, [21] = 1},
+    [FLOOR_TO_CUT] = {[7] = 1, [12] = 1, [13] = 1, [14] = 1, [15] = 1, [16] = 1},
+    [NO_KIND_TO_CUT] = {[7] = 1, [12] = 1, [13] = 1, [14] = 1, [15] = 1, [16] = 1},
+    [CUT_TO_FLOOR] = {[7] = 1, [12] = 1, [13] = 1, [14] = 1, [15] = 1, [16] = 1},
+    [ROWS_TO_FLOOR] = {[7] = 1, [12] = 1, [13] = 1, [14] = 1, [15] = 1, [16] = 1},
     [SWEEP] = {[0] = 1, [1] = 1, [2] = 1, [6] = 1, [17] = 1, [19] = 1, [20] = 1, [22] = 1},
     [EXACT] = {[0] = 1, [1] = 1, [6] = 1, [7] = 1, [17] = 1, [22] = 1, [24] = 1},
     [ROW_1] = {[1] = 1, [2] = 1, [3] = 1, [4] = 1, [8] = 1, [9] = 1, [10] = 1, [11] = 1, [17] = 1,
@@ -1487,7 +1619,7 @@ static const unsigned char due[TALLIES][NUMBERS] = {
 static unsigned long report(enum tally tally, int *lacking)
 {
     unsigned long inputs = 0;
-    printf("%-11s", names[tally]);
+    printf("%-17s", names[tally]);
     for (int number = 0; number < NUMBERS; number++) {
         unsigned long count = seen[tally][number];
         inputs += count;
@@ -1620,10 +1752,22 @@ static void report_exact(int *lacking)
         report_named(floor_names[what], floor_is_names, floors_of_lists[what], FLOOR_IS, lacking);
 }
 
+static void report_short_buffers(int *lacking)
+{
+    printf("refused with 7 for one buffer\n");
+    for (int operation = 0; operation < JOB_OPERATIONS; operation++) {
+        report_named(operation_names[operation], buffer_names, short_buffers[operation], BUFFERS, lacking);
+        report_named("    own  ", kind_names, short_own[operation], KINDS, lacking);
+    }
+}
+
 static unsigned long report_all(int *lacking)
 {
     printf("inputs by number of refusal (0: accepted)\n");
     unsigned long inputs = report_operations(lacking);
+    report_tallies("jobs given to the operation that does not take them by number", FLOOR_TO_CUT,
+                   ROWS_TO_FLOOR, lacking);
+    report_named("refused with 21 by cut and with 16 by floor", bad_rows_names, beside_21, BAD_ROWS, lacking);
     report_tallies("refused jobs of rows by number", ROW_1, LATER_ROW, lacking);
     report_tallies("tables refused with 18 by what the table check says", BEHIND_18, LAST_BEHIND_18,
                    lacking);
@@ -1640,8 +1784,7 @@ static unsigned long report_all(int *lacking)
     report_tallies("jobs with blocks by number", JOB_IN_BLOCKS, WRONG_BLOCKS, lacking);
     report_tallies("refused with 23 by the number without tag 8", BEHIND_23, BEHIND_23, lacking);
     report_named("refused with 23 by blocks", wrong_names, wrong_blocks, WRONGS, lacking);
-    report_named("refused with 7 for one buffer", buffer_names, short_buffers, BUFFERS, lacking);
-    report_named("  for that of the blocks", kind_names, short_blocks, KINDS, lacking);
+    report_short_buffers(lacking);
     report_named("accepted jobs by blocks  ", block_sort_names, in_blocks, BLOCK_SORTS, lacking);
     report_named("accepted jobs by counts  ", sort_names, counted[0], SORTS, lacking);
     report_named("accepted sweeps by counts", sort_names, counted[1], SORTS, lacking);
@@ -1669,6 +1812,7 @@ static void compare_all(unsigned long rounds)
         compare_lengths(kind, 8180, 8204); /* about the most of sizes, of a table and of a row */
     }
     compare_rows();
+    compare_early();
     compare_all_counts();
     compare_places_of_blocks();
     compare_numbers_of_blocks();

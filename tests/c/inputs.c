@@ -849,8 +849,7 @@ static void lend_places(struct job_input *in, uint64_t too_short)
     in->images_places = some_places(WINDOWFLOOR_JOB_IMAGES, too_short);
     in->working_places = some_places(WINDOWFLOOR_JOB_WORKING, too_short);
     in->list_places = some_places(WINDOWFLOOR_JOB_LIST, too_short);
-    in->scales_places = some_places(WINDOWFLOOR_JOB_SCALES, too_short);
-    in->blocks_places = some_places(WINDOWFLOOR_JOB_BLOCKS, too_short);
+    in->own_places = some_places(64, too_short);
 }
 
 /* Mostly out of place. */

@@ -1,4 +1,4 @@
-/* Random inputs of the five operations: valid, at the limits, and damaged. */
+/* Random inputs of the six operations: valid, at the limits, and damaged. */
 #ifndef INPUTS_H
 #define INPUTS_H
 
@@ -23,9 +23,10 @@ struct table_input {
     size_t count, working_places, list_places;
 };
 
+/* For either operation: its own buffer is that of the block floors or that of the scales. */
 struct job_input {
     uint8_t bytes[ROOM_BYTES];
-    size_t length, images_places, working_places, list_places, scales_places, blocks_places;
+    size_t length, images_places, working_places, list_places, own_places;
     size_t field_at[ROOM_FIELDS], fields; /* where each field starts, before any damage */
     size_t first_list, lists;             /* which of them is the list of sizes, or which are rows */
 };

@@ -528,8 +528,6 @@ static uint64_t list_refusal(unsigned kind, const struct chain *chain, const str
     return blocks != NULL && blocks_wrong(blocks, chain->n) ? 23 : 0;
 }
 
-/* Job */
-
 static void start_chain(struct chain *chain, uint32_t capacity, const uint32_t *sizes, size_t n)
 {
     chain->scale = capacity;
@@ -547,9 +545,9 @@ static void set_counts(struct chain *chain, const struct fields *fields)
         chain->counts[i] = (uint16_t)counts->numbers[i];
 }
 
-/* A refusal's number, step and length go into the answer. */
+/* The answer of a cut has what both answers have. A refusal's number, step and length go into it. */
 static void run_steps(const struct fields *fields, struct chain *chain, uint32_t *list,
-                      struct windowfloor_job_answer *answer)
+                      struct windowfloor_cut_answer *answer)
 {
     uint64_t step = 0;
     for (size_t i = 0; i < fields->count && answer->number == 0; i++) {
@@ -564,14 +562,50 @@ static void run_steps(const struct fields *fields, struct chain *chain, uint32_t
 }
 
 static void run_chain(unsigned kind, const struct fields *fields, struct chain *chain, uint32_t *list,
-                      struct windowfloor_job_answer *answer)
+                      struct windowfloor_cut_answer *answer)
 {
     answer->number = list_refusal(kind, chain, field_if_any(fields, 8));
     if (answer->number == 0)
         run_steps(fields, chain, list, answer);
 }
 
-/* Kinds 1 and 2 */
+/* Both operations */
+
+struct places {
+    size_t images, working, list, own;
+};
+
+/* What is refused before a list or a row is looked at; the kinds from the first to the last are taken. */
+static uint64_t early_job_refusal(const uint8_t *job, size_t bytes, struct places lent, unsigned first,
+                                  unsigned last, struct fields *fields)
+{
+    if (bytes > MOST_BYTES)
+        return 12;
+    if (lent.images < 2048 || lent.working < 2048 || lent.list < 2047 || lent.own < 64)
+        return 7;
+    uint64_t number = fields_refusal(read_fields(job, bytes, fields));
+    if (number != 0)
+        return number;
+    unsigned kind = field_of(fields, 1).numbers[0];
+    return kind < first || kind > last ? 16 : 0;
+}
+
+/* A list, kind 1 or 2. */
+static void run_list(unsigned kind, const struct fields *fields, struct chain *chain, uint32_t *images,
+                     uint32_t *list, struct windowfloor_cut_answer *answer)
+{
+    struct field sizes = field_of(fields, 3);
+    start_chain(chain, field_of(fields, 2).numbers[0], sizes.numbers, sizes.count);
+    set_counts(chain, fields);
+    run_chain(kind, fields, chain, list, answer);
+    if (answer->number != 0)
+        return;
+    memcpy(images, chain->images, chain->n * sizeof *images);
+    answer->n = chain->n;
+    answer->scale = chain->scale;
+}
+
+/* Floor */
 
 /* Of n sizes from the first on. */
 static uint64_t sum_of(const struct chain *chain, size_t first, size_t n)
@@ -584,7 +618,7 @@ static uint64_t sum_of(const struct chain *chain, size_t first, size_t n)
 
 /* A block begins where the one before it ends. */
 static void accept_blocks(const struct chain *chain, const struct field *block_sizes, uint32_t *blocks,
-                          struct windowfloor_job_answer *answer)
+                          struct windowfloor_floor_answer *answer)
 {
     size_t first = 0;
     answer->total = 0;
@@ -595,37 +629,37 @@ static void accept_blocks(const struct chain *chain, const struct field *block_s
     }
 }
 
-static void accept_list(unsigned kind, const struct chain *chain, uint32_t *images,
-                        struct windowfloor_job_answer *answer)
+static void accept_floor(const struct chain *chain, const struct field *block_sizes, uint32_t *blocks,
+                         struct windowfloor_floor_answer *answer)
 {
-    memcpy(images, chain->images, chain->n * sizeof *images);
-    answer->n = chain->n;
-    answer->scale = chain->scale;
-    answer->sum = kind == 1 ? sum_of(chain, 0, chain->n) : 0;
+    answer->sum = sum_of(chain, 0, chain->n);
     answer->floor = answer->total = (uint64_t)up(answer->sum, answer->scale);
-}
-
-static void run_list(unsigned kind, const struct fields *fields, uint32_t *images, uint32_t *list,
-                     uint32_t *blocks, struct windowfloor_job_answer *answer)
-{
-    static struct chain chain;
-    struct field sizes = field_of(fields, 3);
-    const struct field *block_sizes = field_if_any(fields, 8);
-    if (kind != 1 && kind != 2) {
-        answer->number = 16;
-        return;
-    }
-    start_chain(&chain, field_of(fields, 2).numbers[0], sizes.numbers, sizes.count);
-    set_counts(&chain, fields);
-    run_chain(kind, fields, &chain, list, answer);
-    if (answer->number != 0)
-        return;
-    accept_list(kind, &chain, images, answer);
     if (block_sizes != NULL)
-        accept_blocks(&chain, block_sizes, blocks, answer);
+        accept_blocks(chain, block_sizes, blocks, answer);
 }
 
-/* Kind 3: a row is a right side and its coefficients. Rows are kept until the last is accepted. */
+struct windowfloor_floor_answer reference_floor(const uint8_t *job, size_t bytes,
+                                                uint32_t *images, size_t images_places,
+                                                uint64_t *working, size_t working_places,
+                                                uint32_t *list, size_t list_places,
+                                                uint32_t *blocks, size_t blocks_places)
+{
+    static struct fields fields;
+    static struct chain chain;
+    struct places lent = {images_places, working_places, list_places, blocks_places};
+    struct windowfloor_cut_answer ran = {0, 0, 0, 0, 0, 0};
+    (void)working;
+    ran.number = early_job_refusal(job, bytes, lent, 1, 1, &fields);
+    if (ran.number == 0)
+        run_list(1, &fields, &chain, images, list, &ran);
+    struct windowfloor_floor_answer answer = {ran.number, ran.n,      0,       0, ran.scale,
+                                              ran.step,   ran.length, ran.row, 0};
+    if (answer.number == 0)
+        accept_floor(&chain, field_if_any(&fields, 8), blocks, &answer);
+    return answer;
+}
+
+/* Cut. In kind 3 a row is a right side and its coefficients. Rows are kept until the last is accepted. */
 
 struct model {
     size_t rows, n;
@@ -652,7 +686,7 @@ static void keep_row(struct model *model, const struct chain *chain)
 }
 
 static void run_row(struct field row, const struct fields *fields, struct model *model, uint32_t *list,
-                    struct windowfloor_job_answer *answer)
+                    struct windowfloor_cut_answer *answer)
 {
     static struct chain chain;
     start_chain(&chain, row.numbers[0], row.numbers + 1, row.count - 1);
@@ -664,7 +698,7 @@ static void run_row(struct field row, const struct fields *fields, struct model 
 }
 
 static void accept_rows(const struct model *model, uint32_t *images, uint32_t *scales,
-                        struct windowfloor_job_answer *answer)
+                        struct windowfloor_cut_answer *answer)
 {
     answer->n = model->n;
     memcpy(images, model->images, model->n * sizeof *images);
@@ -672,7 +706,7 @@ static void accept_rows(const struct model *model, uint32_t *images, uint32_t *s
 }
 
 static void run_rows(const struct fields *fields, uint32_t *images, uint32_t *list, uint32_t *scales,
-                     struct windowfloor_job_answer *answer)
+                     struct windowfloor_cut_answer *answer)
 {
     static struct model model;
     model.rows = model.n = 0;
@@ -684,31 +718,24 @@ static void run_rows(const struct fields *fields, uint32_t *images, uint32_t *li
         accept_rows(&model, images, scales, answer);
 }
 
-struct windowfloor_job_answer reference_job(const uint8_t *job, size_t bytes,
+struct windowfloor_cut_answer reference_cut(const uint8_t *job, size_t bytes,
                                             uint32_t *images, size_t images_places,
                                             uint64_t *working, size_t working_places,
                                             uint32_t *list, size_t list_places,
-                                            uint32_t *scales, size_t scales_places,
-                                            uint32_t *blocks, size_t blocks_places)
+                                            uint32_t *scales, size_t scales_places)
 {
     static struct fields fields;
-    struct windowfloor_job_answer answer;
-    memset(&answer, 0, sizeof answer);
+    static struct chain chain;
+    struct places lent = {images_places, working_places, list_places, scales_places};
+    struct windowfloor_cut_answer answer = {0, 0, 0, 0, 0, 0};
     (void)working;
-    if (bytes > MOST_BYTES)
-        answer.number = 12;
-    else if (images_places < 2048 || working_places < 2048 || list_places < 2047 || scales_places < 64
-             || blocks_places < 64)
-        answer.number = 7;
-    else
-        answer.number = fields_refusal(read_fields(job, bytes, &fields));
+    answer.number = early_job_refusal(job, bytes, lent, 2, 3, &fields);
     if (answer.number != 0)
         return answer;
-    unsigned kind = field_of(&fields, 1).numbers[0];
-    if (kind == 3)
+    if (field_of(&fields, 1).numbers[0] == 3)
         run_rows(&fields, images, list, scales, &answer);
     else
-        run_list(kind, &fields, images, list, blocks, &answer);
+        run_list(2, &fields, &chain, images, list, &answer);
     return answer;
 }
 

@@ -1,4 +1,4 @@
-/* The five operations once more, written from the scope document and the requests alone and with no
+/* The six operations once more, written from the scope document and the requests alone and with no
  * thought of speed, to be compared with the library. A job is read by a machine that takes byte for byte;
  * the library and the implementation in Python go from field to field. Each row is judged in full, its
  * tables too; the library checks a table once. The fewest windows are found by adding a copy to the last
@@ -15,12 +15,17 @@ struct windowfloor_table_answer reference_table_check(const uint32_t *table, siz
                                                       uint64_t *working, size_t working_places,
                                                       uint32_t *list, size_t list_places);
 
-struct windowfloor_job_answer reference_job(const uint8_t *job, size_t bytes,
+struct windowfloor_floor_answer reference_floor(const uint8_t *job, size_t bytes,
+                                                uint32_t *images, size_t images_places,
+                                                uint64_t *working, size_t working_places,
+                                                uint32_t *list, size_t list_places,
+                                                uint32_t *blocks, size_t blocks_places);
+
+struct windowfloor_cut_answer reference_cut(const uint8_t *job, size_t bytes,
                                             uint32_t *images, size_t images_places,
                                             uint64_t *working, size_t working_places,
                                             uint32_t *list, size_t list_places,
-                                            uint32_t *scales, size_t scales_places,
-                                            uint32_t *blocks, size_t blocks_places);
+                                            uint32_t *scales, size_t scales_places);
 
 struct windowfloor_sweep_answer reference_sweep(uint64_t capacity, uint8_t family,
                                                 const uint32_t *sizes, size_t n,

@@ -8,9 +8,9 @@ import windowfloor as wf
 from edges import LIMIT, MAX
 from job_bytes import (
     BAD_STEPS, MOST_ONES, ONES, SAME, blocked_job, blocks, blocks_of, counted_blocked_job, counted_fields, counted_job,
-    counts, cut_short, damaged, family, field, groups_at, halfwords, head, job, make, moved, other_lengths_at,
-    other_tags_at, other_value, random_groups, random_pairs, random_steps, row, rows_job, table, tables_of, word,
-    written_out)
+    counts, cut_short, damaged, family, field, groups_at, halfwords, head, job, make, make_both, moved,
+    other_lengths_at, other_tags_at, other_value, random_groups, random_pairs, random_steps, row, rows_job, table,
+    tables_of, together, with_early_faults, word, written_out)
 from table_cases import FAMILY_STEPS, MOST_PLACES
 
 RANDOM = 24  # of each kind
@@ -159,8 +159,8 @@ def refused_steps():
 
 
 def faulty(faults):
-    """A case with the faults of these numbers, 2 being that of the step. Counts stand in it where kind 4 does not
-    make them the first field out of place."""
+    """The cases with the faults of these numbers, 2 being that of the step. Counts stand in the job where kind 4 does
+    not make them the first field out of place."""
     capacity, kind = 0 if 1 in faults else 10, 4 if 16 in faults else 1
     fields = head(kind, capacity, (7, 3, 11 if 17 in faults else 10))
     if 22 in faults or 16 not in faults:
@@ -168,19 +168,16 @@ def faulty(faults):
     value = halfwords((1, 1) if 23 in faults else (1, 2))
     fields.append(field(8, value + b"\0" if 15 in faults else value))
     fields.append(family(8, 1) if 2 in faults else family(1, 3))
-    data = b"".join(fields) + (blocks(1, 2) if 14 in faults else b"") + (b"\4\0" if 13 in faults else b"")
-    if 12 in faults:
-        data += bytes(wf.MOST_JOB_BYTES + 1 - len(data))
-    return make(data, floors=63 if 7 in faults else 64)
+    return with_early_faults(b"".join(fields), faults, blocks(1, 2))
 
 
 def orders():
-    """No fault, one, any two together, and any of those about 23, so that their order shows."""
+    """No fault, one, any two together, and any of those about 23, so that their order shows in both operations."""
     numbers = 12, 7, 13, 14, 15, 16, 1, 17, 22, 23, 2
     for count in range(3):
-        yield from map(faulty, itertools.combinations(numbers, count))
+        yield from together(map(faulty, itertools.combinations(numbers, count)))
     for count in range(3, 6):
-        yield from map(faulty, itertools.combinations((15, 17, 22, 23, 2), count))
+        yield from together(map(faulty, itertools.combinations((15, 17, 22, 23, 2), count)))
 
 
 def sizes_and_blocks():
@@ -360,18 +357,19 @@ def counted_and_written_out():
 
 
 def buffers():
-    """The buffer of block floors too short, exact and longer, for every kind and every sort of answer; the others."""
-    full = wf.JOB_IMAGES, wf.JOB_WORKING, wf.JOB_LIST, wf.JOB_SCALES
+    """The buffer of block floors too short, exact and longer, for every kind and every sort of answer; the others. The
+    same with the cut operation's own."""
+    full = wf.JOB_IMAGES, wf.JOB_WORKING, wf.JOB_LIST
     good = b"".join(SMALL)
     jobs = (b"", job(1, 10, (6, 6, 6)), job(1, 10, (), blocks()), good, good[:-1], wrong_job((1, 1)),
             good + family(8, 1), wrong_job((1, 2), table(*range(10), 9)), blocked_job(LIMIT, [[SAME]] * 64),
             blocked_job(LIMIT, [[SAME]] * 65), job(2, 10, (0, 4)), rows_job([(10, 7), (10, 3)]), job(4, 10, (1,)),
             job(2, 10, (4,), blocks(1)), bytes(65_536))
-    for data, floors in itertools.product(jobs, (0, 1, 63, 64, 65, MOST_PLACES)):
-        yield make(data, *full, floors)
-    for short, floors in itertools.product(range(4), (63, 64, 65)):
-        yield make(good, *(places - (which == short) for which, places in enumerate(full)), floors)
-    yield make(good, *[MOST_PLACES] * 5)
+    for data, own in itertools.product(jobs, (0, 1, 63, 64, 65, MOST_PLACES)):
+        yield from make_both(data, *full, own)
+    for short, own in itertools.product(range(3), (63, 64, 65)):
+        yield from make_both(good, *(places - (which == short) for which, places in enumerate(full)), own)
+    yield from make_both(good, *[MOST_PLACES] * 4)
 
 
 def block_cases():

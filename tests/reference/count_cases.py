@@ -8,8 +8,8 @@ import windowfloor as wf
 from edges import LIMIT, MAX
 from job_bytes import (
     BAD_STEPS, SAME, counted_fields, counted_job, counts, cut_short, damaged, family, field, head, job, leaving, make,
-    moved, other_lengths_at, other_tags_at, other_value, random_pairs, random_steps, row, table, tables_of, word,
-    written_out)
+    make_both, moved, other_lengths_at, other_tags_at, other_value, random_pairs, random_steps, row, table, tables_of,
+    word, written_out)
 from table_cases import FAMILY_STEPS, MOST_PLACES
 
 RANDOM = 20  # of each kind
@@ -232,7 +232,7 @@ def buffers():
     for data in jobs:
         for room in ((2047, 2048, 2047, 64), (2048, 2047, 2047, 64), (2048, 2048, 2046, 64), (2048, 2048, 2047, 63),
                      (2048, 2048, 2047, 64), (MOST_PLACES,) * 4):
-            yield make(data, *room)
+            yield from make_both(data, *room)
 
 
 def count_cases():

@@ -9,6 +9,9 @@ ONES = 0x01010101
 MOST_ONES = LIMIT // ONES  # its multiples up to this one are within the limit, and their repeats are one run of bytes
 SAME = MOST_ONES * ONES
 
+FLOORS, CUTS = 1, 2  # the operations of jobs, as the cases name them
+LEAST = {FLOORS: wf.FLOOR_PLACES, CUTS: wf.CUT_PLACES}
+
 
 # Fields and whole jobs
 
@@ -154,16 +157,34 @@ def tables_about_4():
 
 # Cases
 
-def lent():
-    """Buffers of a job, each with no more places than it needs."""
-    return [0] * wf.JOB_IMAGES, [0] * wf.JOB_WORKING, [0] * wf.JOB_LIST, [0] * wf.JOB_SCALES, [0] * wf.JOB_BLOCKS
+def lent(places):
+    """Buffers with so many places."""
+    return [[0] * count for count in places]
 
 
-def make(data, images=wf.JOB_IMAGES, working=wf.JOB_WORKING, listed=wf.JOB_LIST, scales=wf.JOB_SCALES,
-         floors=wf.JOB_BLOCKS):
-    """A case of a job and the places of its buffers."""
+def make_for(operation, data, *places):
+    """A case of an operation, a job and the places of the buffers, each as many as it needs if they are not given."""
     runs = [(len(list(group)), byte) for byte, group in itertools.groupby(data)]
-    return (images, working, listed, scales, floors, len(data), len(runs)) + sum(runs, ())
+    return (operation, *places, *LEAST[operation][len(places):], len(data), len(runs)) + sum(runs, ())
+
+
+def make(data, *places):
+    """The case of the operation that the program calls."""
+    return make_for(CUTS if wf.calls_cut(data) else FLOORS, data, *places)
+
+
+def make_both(data, *places):
+    """The cases of both operations."""
+    return [make_for(operation, data, *places) for operation in LEAST]
+
+
+def with_early_faults(data, faults, out_of_place):
+    """The cases of both operations of a job with those of these faults that come before 15: 12, 7, 13 and 14, for
+    which it ends with a field that is out of place."""
+    data += (out_of_place if 14 in faults else b"") + (b"\4\0" if 13 in faults else b"")
+    if 12 in faults:
+        data += bytes(wf.MOST_JOB_BYTES + 1 - len(data))
+    return make_both(data, wf.JOB_IMAGES, wf.JOB_WORKING, wf.JOB_LIST, 63 if 7 in faults else 64)
 
 
 # A good job in every way changed
@@ -210,7 +231,7 @@ def leaving(draw, left):
     """A job, drawn until its sum is so many more than a multiple of E."""
     while True:
         data = draw()
-        _, _, _, total, scale, *_ = wf.job(data, *lent())
+        _, _, _, total, scale, *_ = wf.floor(data, *lent(wf.FLOOR_PLACES))
         if (total - left) % scale == 0:
             return data
 

@@ -1,19 +1,23 @@
-"""Writes crates/job_cases/stdin (job cases: i w l s f b k and k runs) and
-crates/job_cases/stdout (their answers: the nine numbers, a checksum of the
-image buffer, of the list buffer, of the buffer of scales and of that of block
-floors). With --check it writes nothing and fails if a stored file differs.
+"""Writes crates/job_cases/stdin (job cases: o i w l p b k and k runs) and
+crates/job_cases/stdout (their answers: the nine numbers of the floor operation
+or the six of the cut operation, a checksum of the image buffer, of the list
+buffer and of the operation's own). With --check it writes nothing and fails if
+a stored file differs.
 
-The image, working and list buffers and those of scales and of block floors have
-i, w, l, s and f places. The job has b bytes: those of the runs (count, byte) in
-turn, and 0 behind them. Before the call place j of the image buffer holds
+The operation is that of the cut if o is 2, else that of the floor. The image,
+working and list buffers and the operation's own, of block floors or of scales,
+have i, w, l and p places. The job has b bytes: those of the runs (count, byte)
+in turn, and 0 behind them. Before the call place j of the image buffer holds
 800,000 + j, of the working buffer 7,000,000,000 + j, of the list buffer
-900,000 + j, of the scales 700,000 + j and of the block floors 600,000 + j. No
-case lies in two of the blocks of 65,536 bytes that the program reads: empty
-lines fill up a block.
+900,000 + j and of the operation's own 700,000 + j. No case lies in two of the
+blocks of 65,536 bytes that the program reads: empty lines fill up a block.
 
 Here are the cases of kinds 1 and 2; row_cases.py has those of kind 3,
-count_cases.py those with counts, block_cases.py those with blocks and
-unit_cases.py those at the limit."""
+count_cases.py those with counts, block_cases.py those with blocks,
+unit_cases.py those at the limit and operation_cases.py those of the operations
+and the kinds that they do not take. A case goes to the operation that the
+program calls, where its maker says nothing else; one of a short job goes to the
+other as well."""
 
 import itertools
 import random
@@ -26,8 +30,9 @@ from case_files import in_blocks, lines, store_or_check
 from count_cases import count_cases
 from edges import LIMIT, MAX
 from job_bytes import (
-    BAD_STEPS, SAME, changed_value, counted_job, cut_short, damaged, family, field, head, job, last_only, leaving, make,
-    other_lengths, other_tags, random_steps, rows_job, table, tables_about_4)
+    BAD_STEPS, CUTS, SAME, changed_value, counted_job, cut_short, damaged, family, field, head, job, last_only, leaving,
+    make, make_both, other_lengths, other_tags, random_steps, rows_job, table, tables_about_4)
+from operation_cases import by_the_other, operation_cases
 from row_cases import row_cases
 from table_cases import FAMILY_STEPS, MOST_PLACES, checksum
 from unit_cases import unit_cases
@@ -219,7 +224,7 @@ def buffers():
              (2049, 2049, 2048), (2100, 2100, 2100), (0, 0, 0), (0, 2100, 2100), (2100, 0, 2100),
              (2100, 2100, 0), (2047, 2047, 2046))
     for data, room in itertools.product(jobs, rooms):
-        yield make(data, *room)
+        yield from make_both(data, *room)
 
 
 def longest():
@@ -267,9 +272,9 @@ def all_cases():
     cases = {}
     for part in (reckoned, form, truncated, tag_orders, lengths, chains, bad_steps, other_capacities,
                  capacities, kinds, counts, roundings, buffers, longest, random_cases, row_cases,
-                 count_cases, first_halves, later_halves, chains_of_halves, block_cases, unit_cases):
+                 count_cases, first_halves, later_halves, chains_of_halves, block_cases, unit_cases, operation_cases):
         cases.update(dict.fromkeys(part()))
-    return list(cases)
+    return list(cases | dict.fromkeys(by_the_other(cases)))
 
 
 # Answers
@@ -281,15 +286,18 @@ def job_of(case):
     return (data + bytes(b))[:b]
 
 
+def filled(places):
+    """Images, working buffer, list and the operation's own buffer before the call."""
+    assert max(places) <= MOST_PLACES
+    firsts = 800_000, 7_000_000_000, 900_000, 700_000
+    return [[first + i for i in range(count)] for first, count in zip(firsts, places, strict=True)]
+
+
 def answer(case):
-    assert max(case[:5]) <= MOST_PLACES
-    images = [800_000 + i for i in range(case[0])]
-    working = [7_000_000_000 + i for i in range(case[1])]
-    listed = [900_000 + i for i in range(case[2])]
-    scales = [700_000 + i for i in range(case[3])]
-    floors = [600_000 + i for i in range(case[4])]
-    numbers = wf.job(job_of(case), images, working, listed, scales, floors)
-    return numbers + tuple(map(checksum, (images, listed, scales, floors)))
+    images, working, listed, own = filled(case[1:5])
+    call = wf.cut if case[0] == CUTS else wf.floor
+    numbers = call(job_of(case), images, working, listed, own)
+    return numbers + tuple(map(checksum, (images, listed, own)))
 
 
 def main():

@@ -162,22 +162,25 @@ def floor_job(capacity, blocks, *steps):
     return counted_job(capacity, together(blocks), *divided, *(family_step(*step) for step in steps))
 
 
-def run_job(data):
-    """The numbers of the answer, and the images."""
-    images, *others = lent()
-    numbers = wf.job(data, images, *others)
-    return numbers, images[:numbers[1]]
+def run_floor(data):
+    """Number and floor of the answer."""
+    number, _, floor, *_ = wf.floor(data, *lent(wf.FLOOR_PLACES))
+    return number, floor
 
 
 def run_blocks(capacity, blocks, *steps):
     """The block floors and their total."""
-    *others, floors = lent()
-    *_, total = wf.job(floor_job(capacity, blocks, *steps), *others, floors)
+    *others, floors = lent(wf.FLOOR_PLACES)
+    *_, total = wf.floor(floor_job(capacity, blocks, *steps), *others, floors)
     return floors[:len(blocks)], total
 
 
 def run_cut(capacity, sizes, *steps):
-    return run_job(job(wf.CUT, capacity, sizes, *(family_step(*step) for step in steps)))
+    """Number, scale and step of the answer, and the images."""
+    images, *others = lent(wf.CUT_PLACES)
+    data = job(wf.CUT, capacity, sizes, *(family_step(*step) for step in steps))
+    number, n, scale, step, *_ = wf.cut(data, images, *others)
+    return number, scale, step, images[:n]
 
 
 def greatest_p(capacity, family):
@@ -270,14 +273,14 @@ def expected(words):
     capacity, blocks = int(words[0]), in_blocks(words[1:])
     if capacity >= 2**32:
         return refused(1)
-    refusal, _, without, *_ = run_job(floor_job(capacity, blocks))[0]
+    refusal, without = run_floor(floor_job(capacity, blocks))
     if refusal:
         return refused(refusal)
     pairs = together(blocks)
     lines, best, step = sweeps(capacity, pairs, without)
-    cut, images = run_cut(capacity, apart(pairs)[0], *([step] if step else []))
+    _, scale, _, images = run_cut(capacity, apart(pairs)[0], *([step] if step else []))
     text = listed(capacity, blocks) + f"  {FAMILIES[0]:<19}           floor {without}\n{lines}"
-    text += floor_lines(capacity, blocks, best, step) + "cut:" + inequality(images, cut[4])
+    text += floor_lines(capacity, blocks, best, step) + "cut:" + inequality(images, scale)
     return text + half_line(capacity, *step) if step else text
 
 
@@ -287,10 +290,10 @@ def expected_rows(rows, steps):
     if not rows:
         return refused(21)
     for place, (right_side, *coefficients) in enumerate(rows, start=1):
-        cut, images = run_cut(right_side, coefficients, *steps)
-        if cut[0]:
-            return refused(cut[0], f", row {place}" + (f", step {cut[5]}" if cut[5] else ""))
-        text += f"row {place}:" + inequality(coefficients, right_side) + "  cut:" + inequality(images, cut[4])
+        number, scale, step, images = run_cut(right_side, coefficients, *steps)
+        if number:
+            return refused(number, f", row {place}" + (f", step {step}" if step else ""))
+        text += f"row {place}:" + inequality(coefficients, right_side) + "  cut:" + inequality(images, scale)
     return text
 
 

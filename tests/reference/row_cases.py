@@ -7,8 +7,8 @@ import random
 import windowfloor as wf
 from edges import LIMIT, MAX
 from job_bytes import (
-    BAD_STEPS, SAME, changed_value, cut_short, damaged, family, field, head, job, last_only, lent, make, other_lengths,
-    other_tags, random_steps, row, rows_fields, rows_job, table, tables_about_4, words)
+    BAD_STEPS, SAME, changed_value, cut_short, damaged, family, field, head, job, last_only, lent, make, make_both,
+    other_lengths, other_tags, random_steps, row, rows_fields, rows_job, table, tables_about_4, words)
 from table_cases import FAMILY_STEPS, MOST_PLACES
 
 RANDOM = 100  # of each kind
@@ -215,7 +215,7 @@ def random_rows(rng, right, steps):
     rows = []
     for _ in range(rng.choice((1, 1, 2, 2, 3, 4, 6))):
         other = rng.choice((right, right, right + rng.randint(1, 3), rng.randint(1, LIMIT)))
-        if other > LIMIT or wf.job(rows_job([(other,)], *steps), *lent())[0] != wf.ACCEPTED:
+        if other > LIMIT or wf.cut(rows_job([(other,)], *steps), *lent(wf.CUT_PLACES))[0] != wf.ACCEPTED:
             other = right
         rows.append((other,) + tuple(rng.randint(0, other) for _ in range(rng.randint(0, 5))))
     return rows
@@ -249,20 +249,20 @@ def random_jobs():
 
 
 def buffers():
-    """Each buffer too short, exact and longer, for every kind and every sort of answer."""
+    """Each buffer too short, exact and longer, for every kind and every sort of answer, of both operations."""
     full = (wf.JOB_IMAGES, wf.JOB_WORKING, wf.JOB_LIST)
     good = b"".join(SMALL)
     jobs = (b"", job(1, 10, (6, 6, 6)), job(2, 10, (0, 4), NOT_FEASIBLE), job(4, 10, (1,)), good, good[:-1],
             KIND_3, rows_job([FINE, OVER]), rows_job([FINE, FINE], IDENTITY, NOT_FEASIBLE), rows_job([(10,)] * 65),
             rows_job([(10, 7)] * 64), good + family(8, 1), good + row(10), bytes(65_535), bytes(65_536),
             KIND_3 + bytes(65_532))
-    for data, scales in itertools.product(jobs, (0, 1, 2, 63, 64, 65, 70, MOST_PLACES)):
-        yield make(data, *full, scales)
+    for data, own in itertools.product(jobs, (0, 1, 2, 63, 64, 65, 70, MOST_PLACES)):
+        yield from make_both(data, *full, own)
     for data in (good, rows_job([(LIMIT,) + (SAME,) * 2000])):
         for places in ((2047, 2048, 2047), (2048, 2047, 2047), (2048, 2048, 2046), (2047, 2047, 2046),
                        (0, 0, 0), (MOST_PLACES,) * 3):
-            for scales in (63, 64, 65):
-                yield make(data, *places, scales)
+            for own in (63, 64, 65):
+                yield from make_both(data, *places, own)
 
 
 def row_cases():

@@ -242,6 +242,9 @@ def words_of(source):
     return {(module, word.strip()) for module, words in taken for word in words.split(",") if word.strip()}
 
 
+OPERATIONS = dict(functions="image", tables="table_check", floors="floor", cuts="cut", sweeps="sweep", exact="exact")
+
+
 class Exports(unittest.TestCase):
 
     def setUp(self):
@@ -250,12 +253,13 @@ class Exports(unittest.TestCase):
 
     def test_crates(self):
         self.assertEqual({f"{name}_c" for name in self.exporting}, {path.name for path in ROOT.glob("crates/*_c")})
-        self.assertEqual(len(self.exporting), 5)
+        self.assertEqual(set(self.exporting), set(OPERATIONS))
 
     def test_contracts(self):
         """Each export has the parameters, the answer and the clauses of the operation that it calls, in the same words."""
         for name in self.exporting:
             (library, called), (export, exported) = operation(name), operation(f"{name}_c")
+            self.assertTrue(called.startswith(f"windowfloor_{OPERATIONS[name]}("), called)
             self.assertEqual(exported, called)
             self.assertLessEqual(words_of(export), words_of(library), name)
 
@@ -296,10 +300,12 @@ class Names(unittest.TestCase):
         """The structs of the document have the fields of the header's, in their order."""
         documented = dict(re.findall(r"struct (\w+) { uint64_t ([^;]+); };", REFERENCE))
         declared = dict(re.findall(r"struct (\w+) {\n(.*?)\n};", HEADER, re.S))
-        self.assertEqual(len(documented), 5)
+        self.assertEqual(len(documented), len(OPERATIONS))
         for name, fields in documented.items():
             self.assertEqual(fields.split(", "), re.findall(r"uint64_t (\w+);", declared[name]), name)
-        self.assertLessEqual({"row", "total"}, set(documented["windowfloor_job_answer"].split(", ")))
+        self.assertEqual(documented["windowfloor_floor_answer"],
+                         "number, n, floor, sum, scale, step, length, row, total")
+        self.assertEqual(documented["windowfloor_cut_answer"], "number, n, scale, step, length, row")
 
     def test_version(self):
         version = re.search(r'#define WINDOWFLOOR_VERSION "([^"]+)"', HEADER).group(1)

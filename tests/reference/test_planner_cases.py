@@ -14,7 +14,7 @@ import windowfloor as wf
 from job_bytes import counted_job, family, field, lent
 from planner_cases import (
     COUNTED, FILES, IN_BLOCKS, LISTS, MODEL, MODELS, SHORT, expected, expected_rows, greatest_p, in_blocks, notation,
-    pair, run_cut, run_job, sweeps, words_of)
+    pair, run_cut, run_floor, sweeps, words_of)
 
 FAMILIES = range(1, 6)
 
@@ -53,12 +53,12 @@ class LegalParameters(unittest.TestCase):
 
 
 def run_rows(rows, steps):
-    """The numbers of the answer, the images and the scales of one job of kind 3."""
-    images, working, listed, scales, blocks = lent()
+    """Number, step and row of the answer, the images and the scales of one job of kind 3."""
+    images, working, listed, scales = lent(wf.CUT_PLACES)
     fields = [field(6, b"".join(number.to_bytes(4, "big") for number in row)) for row in rows]
     data = field(1, b"\3") + b"".join(fields + [family(*step) for step in steps])
-    numbers = wf.job(data, images, working, listed, scales, blocks)
-    return numbers, images[:numbers[1]], scales[:len(rows)]
+    number, n, _, step, _, row = wf.cut(data, images, working, listed, scales)
+    return (number, step, row), images[:n], scales[:len(rows)]
 
 
 class Rows(unittest.TestCase):
@@ -78,12 +78,11 @@ row 4: 6 x1 + 3 x2 <= 7
     def check(self, rows, steps):
         numbers, images, scales = run_rows(rows, steps)
         cuts = [run_cut(right_side, coefficients, *steps) for right_side, *coefficients in rows]
-        first = next((place for place, (cut, _) in enumerate(cuts, start=1) if cut[0]), 0)
-        if first == 0:
-            self.assertEqual(images, sum((of_row for _, of_row in cuts), []))
-            self.assertEqual(scales, [cut[4] for cut, _ in cuts])
-        refused = cuts[first - 1][0] if first else (0,) * 9
-        self.assertEqual((numbers[0], numbers[5], numbers[7]), (refused[0], refused[5], first))
+        refused = ((number, step, place) for place, (number, _, step, _) in enumerate(cuts, start=1) if number)
+        self.assertEqual(numbers, next(refused, (0, 0, 0)))
+        if numbers[0] == 0:
+            self.assertEqual(images, sum((of_row for *_, of_row in cuts), []))
+            self.assertEqual(scales, [scale for _, scale, *_ in cuts])
 
     def test_one_job_of_rows(self):
         for name, rows, steps in MODELS:
@@ -104,7 +103,7 @@ class Counts(unittest.TestCase):
 
     def floors(self, capacity, pairs):
         """What is printed of a list's floors."""
-        without = run_job(counted_job(capacity, pairs))[0][2]
+        without = run_floor(counted_job(capacity, pairs))[1]
         return without, sweeps(capacity, pairs, without)
 
     def test_copies_in_the_place_of_counts(self):
@@ -156,7 +155,7 @@ class Blocks(FewerTried):
             capacity, *words = line.split()
             text = expected(line.split()).splitlines()
             jobs = [counted_job(int(capacity), block, *best_step(text[7])) for block in in_blocks(words)]
-            floors = [run_job(data)[0][2] for data in jobs]
+            floors = [run_floor(data)[1] for data in jobs]
             with self.subTest(line=line):
                 self.assertIn(f"blocks: {' '.join(map(str, floors))}, total {sum(floors)}", text)
 

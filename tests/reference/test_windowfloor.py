@@ -1,8 +1,8 @@
 """Tests of the reference: the examples of the scope document ("01"), values
 reckoned by hand from it and from the change requests for many rows, for tables
-of another capacity, for counts, for half of an odd window, for blocks and for the
-fewest windows ("02", tickets 1, 2, 4, 5, 6 and 8), and brute force over small
-capacities."""
+of another capacity, for counts, for half of an odd window, for blocks, for the
+fewest windows and for floor and cut as separate calls ("02", tickets 1, 2, 4, 5,
+6, 8 and 9), and brute force over small capacities."""
 
 import itertools
 import random
@@ -17,18 +17,35 @@ from job_bytes import (
 LIMIT = 4_000_000_000
 MARK = 77  # fills places that have to stay
 PLACES = 2050  # of the buffers of images, working numbers and lists
-SHORTER = [MARK] * 66  # the buffers of scales and of block floors, with nothing written
+SHORTER = [MARK] * 66  # the buffer of block floors or of scales, with nothing written
+OPERATIONS = wf.floor, wf.cut
+KIND_3 = field(1, b"\3")
+IDENTITY = table_step(*range(11))  # of capacity 10
 
 
 def buffers():
-    return [MARK] * PLACES, [MARK] * PLACES, [MARK] * PLACES, list(SHORTER), list(SHORTER)
+    """Images, working buffer, list, and the operation's own."""
+    return [MARK] * PLACES, [MARK] * PLACES, [MARK] * PLACES, list(SHORTER)
+
+
+def both(data):
+    """The operation that the program calls, and the other."""
+    return OPERATIONS[::-1] if data[3:4] in (b"\2", b"\3") else OPERATIONS
 
 
 def answer(data):
-    return wf.job(data, *buffers())
+    return both(data)[0](data, *buffers())
 
 
 def refused(number, step=0, length=0, row=0):
+    """What is told of a job that is refused: all else in the answer is 0."""
+    return number, step, length, row
+
+
+def refused_by(operation, number, step=0, length=0, row=0):
+    """The whole answer."""
+    if operation == wf.cut:
+        return number, 0, 0, step, length, row
     return number, 0, 0, 0, 0, step, length, row, 0
 
 
@@ -39,7 +56,7 @@ def floored(n, floor, image_sum, scale):
 
 def strengthened(n, scale=0):
     """A cut accepted; of many rows the scale is 0."""
-    return 0, n, 0, 0, scale, 0, 0, 0, 0
+    return 0, n, scale, 0, 0, 0
 
 
 # Brute force
@@ -206,7 +223,7 @@ class Reckoning(unittest.TestCase):
         sizes = [6, 6, 6]
         self.assertEqual(answer(make_job(1, 10, sizes)), floored(3, 2, 18, 10))
         self.assertEqual(answer(make_job(1, 10, sizes, family_step(1, 5))), floored(3, 3, 30, 10))
-        self.assertEqual(answer(b""), refused(14))
+        self.assertEqual(answer(b""), refused_by(wf.floor, 14))
 
     def test_program(self):
         data = bytes.fromhex(
@@ -346,30 +363,38 @@ class Tables(unittest.TestCase):
 class Refusals(unittest.TestCase):
     """What is common to tests of refused jobs."""
 
+    def is_refused(self, operation, data, told):
+        images, working, lst, own = buffers()
+        length = told[2]
+        self.assertEqual(operation(data, images, working, lst, own), refused_by(operation, *told))
+        self.assertEqual((images, own), ([MARK] * PLACES, SHORTER))
+        self.assertEqual(lst[length:], [MARK] * (PLACES - length))
+
     def refusals(self, cases):
-        for data, expected in cases:
-            images, working, lst, *shorter = buffers()
+        """By the operation that the program calls. 02, ticket 9: 13, 14 and 15 by both, and else 16 by the other."""
+        for data, told in cases:
+            called, other = both(data)
             with self.subTest(data=data[:60].hex()):
-                self.assertEqual(wf.job(data, images, working, lst, *shorter), expected)
-                self.assertEqual((images, shorter), ([MARK] * PLACES, [SHORTER] * 2))
-                self.assertEqual(lst[expected[6]:], [MARK] * (PLACES - expected[6]))
+                self.is_refused(called, data, told)
+                self.is_refused(other, data, told if told[0] in (13, 14, 15) else refused(16))
 
 
 class Jobs(Refusals):
 
     def test_buffers_and_length(self):
-        """Each too short by one place, for every kind; the length of the job comes first."""
-        enough = 2048, 2048, 2047, 64, 64
-        jobs = [(b"", refused(14)), (bytes(65535), refused(14)), (make_job(1, 10, []), floored(0, 0, 0, 10)),
-                (make_job(2, 10, []), strengthened(0, 10)), (rows_job([(10,)]), strengthened(0)),
-                (make_job(1, 10, [7], blocks(1)), floored(1, 1, 7, 10)), (make_job(4, 10, []), refused(16))]
-        for data, expected in jobs:
-            self.assertEqual(wf.job(data, *([0] * places for places in enough)), expected)
-            for short in range(5):
-                lent = [[0] * (places - (which == short)) for which, places in enumerate(enough)]
-                self.assertEqual(wf.job(data, *lent), refused(7))
-        self.assertEqual(wf.job(bytes(65536), [], [], [], [], []), refused(12))
-        self.assertEqual(wf.job(bytes(65535), [], [], [], [], []), refused(7))
+        """Each too short by one place, for every kind and by both; the length of the job comes first."""
+        enough = 2048, 2048, 2047, 64
+        jobs = [(b"", (14, 14)), (bytes(65535), (14, 14)), (make_job(1, 10, []), (0, 16)),
+                (make_job(2, 10, []), (16, 0)), (rows_job([(10,)]), (16, 0)), (KIND_3, (16, 21)),
+                (make_job(1, 10, [7], blocks(1)), (0, 16)), (make_job(4, 10, []), (16, 16))]
+        for place, operation in enumerate(OPERATIONS):
+            for data, numbers in jobs:
+                self.assertEqual(operation(data, *([0] * places for places in enough))[0], numbers[place])
+                for short in range(4):
+                    lent = [[0] * (places - (which == short)) for which, places in enumerate(enough)]
+                    self.assertEqual(operation(data, *lent), refused_by(operation, 7))
+            self.assertEqual(operation(bytes(65536), [], [], [], []), refused_by(operation, 12))
+            self.assertEqual(operation(bytes(65535), [], [], [], []), refused_by(operation, 7))
 
     def test_fields(self):
         head = make_job(1, 10, [1])
@@ -412,11 +437,13 @@ class Jobs(Refusals):
 
     def test_accepted_chain_and_places_that_stay(self):
         for kind, expected in ((1, floored(3, 1, 5, 5)), (2, strengthened(3, 5))):
-            images, working, lst, *shorter = buffers()
+            images, working, lst, own = buffers()
             data = make_job(kind, 5, [1, 4, 5], table_step(0, 1, 1, 1, 1, 5), family_step(2, 1))
-            self.assertEqual(wf.job(data, images, working, lst, *shorter), expected)
+            called, other = both(data)
+            self.assertEqual(called(data, images, working, lst, own), expected)
             self.assertEqual(images, [0, 0, 5] + [MARK] * 2047)
-            self.assertEqual((len(working), lst, shorter), (PLACES, [MARK] * PLACES, [SHORTER] * 2))
+            self.assertEqual((len(working), lst, own), (PLACES, [MARK] * PLACES, SHORTER))
+            self.is_refused(other, data, refused(16))
 
     def test_floors_are_safe(self):
         rng = random.Random(2)
@@ -435,14 +462,10 @@ class Jobs(Refusals):
             capacity = rng.randint(1, 9)
             images, *others = buffers()
             data = make_job(2, capacity, range(capacity + 1), *random_chain(rng, capacity))
-            number, n, _, _, scale, *_ = wf.job(data, images, *others)
+            number, n, scale, *_ = wf.cut(data, images, *others)
             self.assertEqual((number, n, images[0]), (0, capacity + 1, 0))
             for sizes in fitting(capacity):
                 self.assertLessEqual(sum(images[x] for x in sizes), scale)
-
-
-KIND_3 = field(1, b"\3")
-IDENTITY = table_step(*range(11))  # of capacity 10
 
 
 class RowGrammar(Refusals):
@@ -471,7 +494,7 @@ class RowGrammar(Refusals):
     def test_lengths(self):
         for length in range(10):
             data = KIND_3 + field(6, (word(10) + word(3) + bytes(2))[:length])
-            expected = {4: strengthened(0), 8: strengthened(1)}.get(length, refused(15))
+            expected = {4: strengthened(0), 8: strengthened(1)}.get(length, refused_by(wf.cut, 15))
             with self.subTest(length=length):
                 self.assertEqual(answer(data), expected)
 
@@ -497,11 +520,12 @@ class Rows(Refusals):
     """02, ticket 1: rows judged one after the other."""
 
     def accepted(self, data, images, scales):
-        lent_images, working, lst, lent_scales, floors = buffers()
-        self.assertEqual(wf.job(data, lent_images, working, lst, lent_scales, floors), strengthened(len(images)))
+        lent_images, working, lst, lent_scales = buffers()
+        self.assertEqual(wf.cut(data, lent_images, working, lst, lent_scales), strengthened(len(images)))
         self.assertEqual(lent_images, images + [MARK] * (PLACES - len(images)))
         self.assertEqual(lent_scales, scales + [MARK] * (66 - len(scales)))
-        self.assertEqual((lst, floors), ([MARK] * PLACES, SHORTER))
+        self.assertEqual(lst, [MARK] * PLACES)
+        self.is_refused(wf.floor, data, refused(16))
 
     def test_accepted(self):
         """Row 2 by hand: 9 4 5 stay at capacity 9, and their mirrored quotients are 6, 2 and 6 - 2."""
@@ -556,12 +580,13 @@ class Rows(Refusals):
         """What kind 2 gives row by row, as kind 3 has to say it."""
         images, scales = [], []
         for place, (right, *coefficients) in enumerate(rows, start=1):
-            lent_images, working, lst, *unused = buffers()
-            found = wf.job(make_job(2, right, coefficients, *steps), lent_images, working, lst, *unused)
-            if found[0] != 0:
-                return found[:7] + (place, 0), [], [], lst
-            images += lent_images[:found[1]]
-            scales.append(found[4])
+            lent_images, working, lst, own = buffers()
+            data = make_job(2, right, coefficients, *steps)
+            number, n, scale, step, length, _ = wf.cut(data, lent_images, working, lst, own)
+            if number != 0:
+                return refused_by(wf.cut, number, step, length, place), [], [], lst
+            images += lent_images[:n]
+            scales.append(scale)
         return strengthened(len(images)), images, scales, [MARK] * PLACES
 
     def random_row(self, rng, capacity):
@@ -575,15 +600,15 @@ class Rows(Refusals):
             capacity = rng.randint(1, 12)
             steps = random_chain(rng, capacity)
             rows = [self.random_row(rng, capacity) for _ in range(rng.randint(1, 4))]
-            images, working, lst, scales, floors = buffers()
-            found = wf.job(rows_job(rows, *steps), images, working, lst, scales, floors)
+            images, working, lst, scales = buffers()
+            found = wf.cut(rows_job(rows, *steps), images, working, lst, scales)
             expected, due_images, due_scales, due_list = self.one_by_one(rows, steps)
             with self.subTest(rows=rows, steps=steps):
                 self.assertEqual(found, expected)
                 self.assertEqual(images, due_images + [MARK] * (PLACES - len(due_images)))
                 self.assertEqual(scales, due_scales + [MARK] * (66 - len(due_scales)))
-                self.assertEqual((lst, floors), (due_list, SHORTER))
-            outcomes.add((found[0], found[7] > 1))
+                self.assertEqual(lst, due_list)
+            outcomes.add((found[0], found[5] > 1))
         self.assertLessEqual({(0, False), (1, True), (3, True), (17, False), (17, True), (18, True)}, outcomes)
 
     def test_cuts_hold(self):
@@ -592,14 +617,69 @@ class Rows(Refusals):
             first = rng.randint(4, 9)
             steps = random_chain(rng, first)
             rights = [right for right in range(1, 10) if answer(make_job(2, right, [], *steps))[0] == 0]
-            images, working, lst, scales, floors = buffers()
+            images, working, lst, scales = buffers()
             data = rows_job([(right, *range(right + 1)) for right in rights], *steps)
-            self.assertEqual(wf.job(data, images, working, lst, scales, floors)[0], 0)
+            self.assertEqual(wf.cut(data, images, working, lst, scales)[0], 0)
             at = 0
             for right, scale in zip(rights, scales):
                 for sizes in fitting(right):
                     self.assertLessEqual(sum(images[at + x] for x in sizes), scale)
                 at += right + 1
+
+
+class SeparateCalls(unittest.TestCase):
+    """02, ticket 9: what each operation answers, and in which order it refuses. `Refusals` asks both of every job."""
+
+    def test_accepted(self):
+        to_six = family_step(1, 4), family_step(3, 3)  # the images 6 of 7 and 3 of 5, at scale 6
+        sizes = [7, 7, 5, 5, 5]
+        self.assertEqual(answer(make_job(1, 10, sizes, *to_six)), (0, 5, 4, 21, 6, 0, 0, 0, 4))
+        self.assertEqual(answer(make_job(1, 10, sizes, blocks(1, 1, 3), *to_six)), (0, 5, 4, 21, 6, 0, 0, 0, 4))
+        self.assertEqual(answer(make_job(1, 10, sizes, blocks(1, 3, 1), *to_six)), (0, 5, 4, 21, 6, 0, 0, 0, 4))
+        self.assertEqual(answer(make_job(2, 10, sizes, *to_six)), (0, 5, 6, 0, 0, 0))
+        self.assertEqual(answer(rows_job([(10, *sizes), (10, 7)], *to_six)), (0, 6, 0, 0, 0, 0))
+
+    def test_named_numbers_of_a_refusal(self):
+        ok, bad = family_step(1, 2), table_step(0, 0, 2, 1)  # 1 and 2 fit 3, and overshoot
+        self.assertEqual(answer(make_job(1, 3, [1], ok, bad)), (11, 0, 0, 0, 0, 2, 2, 0, 0))
+        self.assertEqual(answer(make_job(2, 3, [1], ok, bad)), (11, 0, 0, 2, 2, 0))
+        self.assertEqual(answer(rows_job([(3, 1)], ok, bad)), (11, 0, 0, 2, 2, 1))
+        self.assertEqual(answer(rows_job([(3, 1), (4, 5)], ok)), (17, 0, 0, 0, 0, 2))
+
+    def test_orders(self):
+        """The fields by the kind byte, then the kind, then the rows, then the lists."""
+        no_rows, too_many = KIND_3 + family_step(0, 0), rows_job([(0, 1)] * 65)
+        over, zero_count = make_job(1, 10, [11]), counted_job(10, [(5, 0)])
+        for data, by_floor, by_cut in [
+                (no_rows + b"\4", 13, 13), (no_rows + row(10), 14, 14), (KIND_3 + field(6, b""), 15, 15),
+                (too_many + b"\4", 13, 13), (KIND_3 + counts(), 14, 14), (make_job(2, 10, [5]) + counts(1), 14, 14),
+                (make_job(1, 10, [5]) + counts(1), 0, 16), (make_job(1, 10, [5]) + counts(), 15, 15),
+                (no_rows, 16, 21), (too_many, 16, 21), (rows_job([(0, 1)]), 16, 1),
+                (make_job(2, 0, [11]), 16, 1), (make_job(2, 10, [11]), 16, 17), (make_job(2, 10, [0]), 16, 0),
+                (over, 17, 16), (zero_count, 22, 16), (make_job(1, 10, [0]), 17, 16),
+                (make_job(1, 10, [5], blocks(2)), 23, 16), (make_job(1, 10, [5], family_step(8, 0)), 2, 16)]:
+            with self.subTest(data=data[:40].hex()):
+                self.assertEqual([operation(data, *buffers())[0] for operation in OPERATIONS], [by_floor, by_cut])
+
+    def test_own_buffers(self):
+        """63 places are too few for each operation's own, whatever the kind; with 64 the job is read."""
+        for data in (b"", make_job(1, 10, [5]), make_job(2, 10, [5]), rows_job([(10, 5)]), make_job(0, 10, [5])):
+            for operation in OPERATIONS:
+                *others, own = buffers()
+                self.assertEqual(operation(data, *others, own[:63])[0], 7)
+                self.assertNotEqual(operation(data, *others, own[:64])[0], 7)
+                self.assertEqual(operation(data + bytes(65_536), *others, own[:63])[0], 12)
+
+    def test_texts(self):
+        """By the fourth byte, also where it is no kind: only 3 has a row printed."""
+        for data, text in [
+                (b"", b"refused 14 0\n"), (b"\1\0\1", b"refused 13 0\n"), (b"\2\0\1\2", b"refused 14 0\n"),
+                (b"\2\0\1\3", b"refused 14 0 0\n"), (make_job(4, 10, [5]), b"refused 16 0\n"),
+                (KIND_3, b"refused 21 0 0\n"), (make_job(2, 0, []), b"refused 1 0\n"),
+                (make_job(2, 10, [5, 0]), b"scale 10\nimages 5 0\n"),
+                (make_job(1, 10, [5]), b"floor 1\nsum 5\nscale 10\nimages 5\n"),
+                (rows_job([(10, 5), (9,)]), b"scale 10\nimages 5\nscale 9\nimages\n")]:
+            self.assertEqual(wf.program(data), text)
 
 
 class OtherCapacity(Refusals):
@@ -662,9 +742,9 @@ class OtherCapacity(Refusals):
                 (rows_job(rows, other, right), refused(18, 1, row=1))])
 
     def test_what_comes_before(self):
-        short = [MARK] * 2048, [MARK] * 2048, [MARK] * 2046, [MARK] * 64, [MARK] * 64
+        short = [MARK] * 2048, [MARK] * 2048, [MARK] * 2046, [MARK] * 64
         for table in bad_tables(9):
-            self.assertEqual(wf.job(make_job(1, 10, [3], table), *short), refused(7))
+            self.assertEqual(wf.floor(make_job(1, 10, [3], table), *short), refused_by(wf.floor, 7))
             self.refusals([
                 (make_job(1, 10, [3], table) + b"\5", refused(13)), (make_job(4, 10, [3], table), refused(16)),
                 (KIND_3 + table, refused(21)), (make_job(1, 0, [], table), refused(1)),
@@ -717,7 +797,7 @@ class CountGrammar(Refusals):
         for n, floor in enumerate(floors):
             for length in range(17):
                 data = make_job(1, 10, [5] * n, field(7, b"\1" * length))
-                expected = floored(n, floor, 1285 * n, 10) if length == 2 * n else refused(15)
+                expected = floored(n, floor, 1285 * n, 10) if length == 2 * n else refused_by(wf.floor, 15)
                 with self.subTest(n=n, length=length):
                     self.assertEqual(answer(data), expected)
         for length in (4094, 4095, 4097, 4098, 8192):
@@ -753,11 +833,11 @@ class Counts(Refusals):
 
     def test_places_that_stay(self):
         """One image for each size."""
-        images, working, lst, *shorter = buffers()
+        images, working, lst, floors = buffers()
         data = counted_job(10, [(7, 300), (5, 2), (7, 1)], family_step(1, 4))
-        self.assertEqual(wf.job(data, images, working, lst, *shorter), floored(3, 302, 3020, 10))
+        self.assertEqual(wf.floor(data, images, working, lst, floors), floored(3, 302, 3020, 10))
         self.assertEqual(images, [10, 5, 10] + [MARK] * 2047)
-        self.assertEqual((lst, shorter), ([MARK] * PLACES, [SHORTER] * 2))
+        self.assertEqual((lst, floors), ([MARK] * PLACES, SHORTER))
 
     def test_counts_of_0(self):
         step = family_step(1, 3)
@@ -779,7 +859,7 @@ class Counts(Refusals):
             (start + b"\4", refused(13)), (start + step[:-1], refused(13)), (start + counts(0), refused(14)),
             (start + step * 9, refused(14)), (start + field(4, bytes(8)), refused(15)),
             (start + step + field(5, bytes(4)), refused(15))])
-        self.assertEqual(wf.job(start, [0] * 2047, [0] * 2048, [0] * 2047, [0] * 64, [0] * 64), refused(7))
+        self.assertEqual(wf.floor(start, [0] * 2047, [0] * 2048, [0] * 2047, [0] * 64), refused_by(wf.floor, 7))
 
     def test_what_comes_behind(self):
         """Every sort of refused step."""
@@ -826,36 +906,40 @@ class Counts(Refusals):
             capacity, pairs, steps = self.random_parts(rng)
             sizes = [size for size, _ in pairs]
             with_ones, without = buffers(), buffers()
-            self.assertEqual(wf.job(counted_job(capacity, [(size, 1) for size in sizes], *steps), *with_ones),
-                             wf.job(make_job(1, capacity, sizes, *steps), *without))
+            self.assertEqual(wf.floor(counted_job(capacity, [(size, 1) for size in sizes], *steps), *with_ones),
+                             wf.floor(make_job(1, capacity, sizes, *steps), *without))
             self.assertEqual(with_ones, without)
 
 
 class HalfWindows(Refusals):
     """02, ticket 5: at each step the present capacity counts."""
 
-    def accepted(self, data, images, floor, total, scale):
+    def accepted(self, data, images, numbers):
         lent_images, *others = buffers()
-        numbers = floored(len(images), floor, total, scale)
-        self.assertEqual(wf.job(data, lent_images, *others), numbers)
+        called, other = both(data)
+        self.assertEqual(called(data, lent_images, *others), numbers)
         self.assertEqual(lent_images[:len(images) + 1], images + [MARK])
+        self.is_refused(other, data, refused(16))
+
+    def floors(self, data, images, *numbers):
+        self.accepted(data, images, floored(len(images), *numbers))
 
     def test_first_step(self):
         sizes = [2, 3, 3, 5]
-        self.accepted(make_job(1, 5, sizes), sizes, 3, 13, 5)
-        self.accepted(make_job(1, 5, sizes, family_step(1, 3)), [0, 5, 5, 5], 3, 15, 5)
-        self.accepted(make_job(1, 5, [3, 3, 3], family_step(1, 3)), [5, 5, 5], 3, 15, 5)
-        self.accepted(make_job(2, 5, [0, 2, 3], family_step(1, 3)), [0, 0, 5], 0, 0, 5)
-        self.accepted(make_job(1, 1, [1, 1], family_step(1, 1)), [1, 1], 2, 2, 1)
-        self.accepted(counted_job(5, [(3, 300), (2, 65_535)], family_step(1, 3)), [5, 0], 300, 1500, 5)
+        self.floors(make_job(1, 5, sizes), sizes, 3, 13, 5)
+        self.floors(make_job(1, 5, sizes, family_step(1, 3)), [0, 5, 5, 5], 3, 15, 5)
+        self.floors(make_job(1, 5, [3, 3, 3], family_step(1, 3)), [5, 5, 5], 3, 15, 5)
+        self.accepted(make_job(2, 5, [0, 2, 3], family_step(1, 3)), [0, 0, 5], strengthened(3, 5))
+        self.floors(make_job(1, 1, [1, 1], family_step(1, 1)), [1, 1], 2, 2, 1)
+        self.floors(counted_job(5, [(3, 300), (2, 65_535)], family_step(1, 3)), [5, 0], 300, 1500, 5)
 
     def test_later_steps(self):
         """Family 5 with p = 3 makes 3 of 11, and x div 3 of each x here; the table makes 5 of 6."""
         thirds, table = family_step(5, 3), table_step(0, 0, 0, 2, 3, 4, 5)
-        self.accepted(make_job(1, 11, [3, 6, 9, 11], thirds), [1, 2, 3, 3], 3, 9, 3)
-        self.accepted(make_job(1, 11, [3, 6, 9, 11], thirds, family_step(1, 2)), [0, 3, 3, 3], 3, 9, 3)
-        self.accepted(make_job(1, 6, [3, 4, 5, 6], table, family_step(1, 3)), [0, 5, 5, 5], 3, 15, 5)
-        self.accepted(make_job(1, 5, [2, 3], *[family_step(1, 3)] * 8), [0, 5], 1, 5, 5)
+        self.floors(make_job(1, 11, [3, 6, 9, 11], thirds), [1, 2, 3, 3], 3, 9, 3)
+        self.floors(make_job(1, 11, [3, 6, 9, 11], thirds, family_step(1, 2)), [0, 3, 3, 3], 3, 9, 3)
+        self.floors(make_job(1, 6, [3, 4, 5, 6], table, family_step(1, 3)), [0, 5, 5, 5], 3, 15, 5)
+        self.floors(make_job(1, 5, [2, 3], *[family_step(1, 3)] * 8), [0, 5], 1, 5, 5)
         self.refusals([
             (make_job(1, 11, [3], family_step(1, 6), thirds, family_step(1, 3)), refused(3, 3)),
             (make_job(1, 5, [3], family_step(2, 2), family_step(1, 6)), refused(3, 2)),
@@ -864,9 +948,9 @@ class HalfWindows(Refusals):
             (make_job(1, 5, [3], family_step(1, 3, 1)), refused(3, 1))])
 
     def test_rows(self):
-        lent_images, working, lst, scales, floors = buffers()
+        lent_images, working, lst, scales = buffers()
         rows, step = [(5, 3, 2), (6, 3, 4), (7, 4, 5)], family_step(1, 3)
-        self.assertEqual(wf.job(rows_job(rows, step), lent_images, working, lst, scales, floors), strengthened(6))
+        self.assertEqual(wf.cut(rows_job(rows, step), lent_images, working, lst, scales), strengthened(6))
         self.assertEqual((lent_images[:6], scales[:3]), ([5, 0, 3, 6, 4, 7], [5, 6, 7]))
         self.refusals([(rows_job(rows + [(4, 0)], step), refused(3, 1, row=4)),
                        (rows_job([(7, 1), (6, 0)], family_step(1, 4)), refused(3, 1, row=2))])
@@ -978,10 +1062,10 @@ class BlockRefusals(Refusals):
             (start + b"\4", refused(13)), (start + step[:-1], refused(13)), (start + wrong, refused(14)),
             (start + counts(1), refused(14)), (start + step * 9, refused(14)),
             (start + field(4, bytes(8)), refused(15)), (start + step + field(5, bytes(4)), refused(15))])
-        for short in range(5):
-            lent = [[0] * (places - (which == short)) for which, places in enumerate((2048, 2048, 2047, 64, 64))]
-            self.assertEqual(wf.job(start, *lent), refused(7))
-        self.assertEqual(wf.job(start + bytes(65_536), *buffers()), refused(12))
+        for short in range(4):
+            lent = [[0] * (places - (which == short)) for which, places in enumerate((2048, 2048, 2047, 64))]
+            self.assertEqual(wf.floor(start, *lent), refused_by(wf.floor, 7))
+        self.assertEqual(wf.floor(start + bytes(65_536), *buffers()), refused_by(wf.floor, 12))
 
     def test_what_comes_behind(self):
         """Every sort of refused step, first and behind another."""
@@ -1001,12 +1085,13 @@ class Blocks(Refusals):
     """02, ticket 6: a floor for each block, and their total."""
 
     def accepted(self, data, images, floors, numbers):
-        lent_images, working, lst, scales, lent_floors = buffers()
+        lent_images, working, lst, lent_floors = buffers()
         due = (0, len(images), *numbers, 0, 0, 0, sum(floors))
-        self.assertEqual(wf.job(data, lent_images, working, lst, scales, lent_floors), due)
+        self.assertEqual(wf.floor(data, lent_images, working, lst, lent_floors), due)
         self.assertEqual(lent_images, images + [MARK] * (PLACES - len(images)))
         self.assertEqual(lent_floors, floors + [MARK] * (66 - len(floors)))
-        self.assertEqual((lst, scales), ([MARK] * PLACES, SHORTER))
+        self.assertEqual(lst, [MARK] * PLACES)
+        self.is_refused(wf.cut, data, refused(16))
 
     def test_reckoned(self):
         """Floor, sum and scale are those of the whole list."""
@@ -1108,7 +1193,8 @@ class BlockLaws(unittest.TestCase):
     def floors_of(self, capacity, groups, steps):
         """Floor, total and block floors."""
         *others, floors = buffers()
-        number, _, floor, _, _, _, _, _, total = wf.job(counted_blocked_job(capacity, groups, *steps), *others, floors)
+        data = counted_blocked_job(capacity, groups, *steps)
+        number, _, floor, _, _, _, _, _, total = wf.floor(data, *others, floors)
         self.assertEqual(number, 0)
         return floor, total, floors[:len(groups)]
 
@@ -1152,10 +1238,10 @@ class BlockLaws(unittest.TestCase):
                 self.assertEqual(floors, [answer(counted_job(capacity, group, *steps))[2] for group in groups])
                 self.assertEqual(total, sum(floors))
                 with_blocks, without = buffers(), buffers()
-                found = wf.job(counted_blocked_job(capacity, groups, *steps), *with_blocks)
-                due = wf.job(counted_job(capacity, together(groups), *steps), *without)
-                self.assertEqual((found[:8], with_blocks[:4]), (due[:8], without[:4]))
-                self.assertEqual((due[8], without[4]), (floor, SHORTER))
+                found = wf.floor(counted_blocked_job(capacity, groups, *steps), *with_blocks)
+                due = wf.floor(counted_job(capacity, together(groups), *steps), *without)
+                self.assertEqual((found[:8], with_blocks[:3]), (due[:8], without[:3]))
+                self.assertEqual((due[8], without[3]), (floor, SHORTER))
                 whole = [together(groups)] if groups else []
                 self.assertEqual(self.floors_of(capacity, whole, steps), (floor, floor, [floor] * len(whole)))
 

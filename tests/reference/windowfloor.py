@@ -1,9 +1,9 @@
 """Reference for the operations of the scope document ("01") with the change
 requests for many rows, for tables of another capacity, for counts of identical
-sizes, for half of an odd window, for blocks, for finer units and for the fewest
-windows of short lists ("02", tickets 1, 2, 4, 5, 6, 7 and 8), written for clarity.
-Numbers may be of any size. Comments name the section of 01, or the ticket of 02,
-that a function follows."""
+sizes, for half of an odd window, for blocks, for finer units, for the fewest
+windows of short lists and for separate calls of floor and cut ("02", tickets 1,
+2 and 4 to 9), written for clarity. Numbers may be of any size. Comments name the
+section of 01, or the ticket of 02, that a function follows."""
 
 import sys
 from functools import lru_cache
@@ -38,11 +38,14 @@ BAD_BLOCKS = 23
 TOO_MANY_COPIES = 24
 
 FLOOR, CUT, ROWS = 1, 2, 3  # kinds
+FLOOR_KINDS, CUT_KINDS = (FLOOR,), (CUT, ROWS)  # that the floor and the cut operation take
 KIND, CAPACITY, SIZES, FAMILY_STEP, TABLE_STEP, ROW, COUNTS, BLOCKS = 1, 2, 3, 4, 5, 6, 7, 8  # tags
 STEPS = FAMILY_STEP, TABLE_STEP
 MOST_ENTRIES, MOST_SIZES, MOST_STEPS, MOST_ROWS, MOST_BLOCKS, MOST_JOB_BYTES = 2048, 2048, 8, 64, 64, 65535
 MOST_COPIES = 10
 JOB_IMAGES, JOB_WORKING, JOB_LIST, JOB_SCALES, JOB_BLOCKS = 2048, 2048, 2047, 64, 64  # least places
+FLOOR_PLACES = JOB_IMAGES, JOB_WORKING, JOB_LIST, JOB_BLOCKS
+CUT_PLACES = JOB_IMAGES, JOB_WORKING, JOB_LIST, JOB_SCALES
 EXACT_WINDOWS = 10  # least places
 
 
@@ -368,7 +371,7 @@ def length_right(tag, length, fields=()):
 
 
 def read_fields(data):
-    """Operations, Job: each field in turn -> (number, list of (tag, value))."""
+    """Jobs: each field in turn -> (number, list of (tag, value))."""
     fields = []
     rest = data
     while len(rest) > 0:
@@ -453,7 +456,7 @@ def take_step(field, capacity, images, working, lst):
     return table_step(value, capacity, images, working, lst)
 
 
-# 01, Operations: Job
+# 01, Operations: Job; 02, ticket 9: what the floor and the cut operation share
 
 def blocks_refused(blocks, n):
     """02, ticket 6: refusal 23, of the blocks of n sizes."""
@@ -479,20 +482,54 @@ def rows_refused(rows):
     return not 1 <= len(rows) <= MOST_ROWS or coefficients > MOST_SIZES
 
 
-def early_job_refusal(data, images, working, lst, scales, blocks):
-    """Operations, Job; 02, tickets 1 and 6: refusals 12 and 7, or 0."""
+def early_job_refusal(data, lent, least):
+    """Operations, Job; 02, tickets 1, 6 and 9: refusals 12 and 7, or 0. The operation's own buffer is lent last."""
     if len(data) > MOST_JOB_BYTES:
         return JOB_TOO_LONG
-    if len(images) < JOB_IMAGES or len(working) < JOB_WORKING:
-        return SHORT_BUFFER
-    if len(lst) < JOB_LIST or len(scales) < JOB_SCALES or len(blocks) < JOB_BLOCKS:
+    if any(len(buffer) < places for buffer, places in zip(lent, least, strict=True)):
         return SHORT_BUFFER
     return ACCEPTED
 
 
-def refused(number, step=0, length=0, row=0):
-    """Operations: a refused job's answer."""
-    return number, 0, 0, 0, 0, step, length, row, 0
+def read_job(data, lent, least, kinds):
+    """Operations, Job; 02, ticket 9: refusals 12, 7, 13, 14, 15 and 16, or the fields of a job of one of these kinds
+    -> (number, list of (tag, value))."""
+    number = early_job_refusal(data, lent, least)
+    if number != ACCEPTED:
+        return number, []
+    number, fields = read_fields(data)
+    if number == ACCEPTED and kind_of(fields) not in kinds:
+        return BAD_KIND, []
+    return number, fields
+
+
+def judge(kind, capacity, sizes, counts, blocks, steps, working, lst):
+    """Operations, Job; 02, tickets 4 and 6: a list or a row in full: refusals
+    1, 17, 22 and 23, then the steps in order -> (number, step, length, images,
+    scale)."""
+    number = list_refusal(kind, capacity, sizes, counts, blocks)
+    if number != ACCEPTED:
+        return number, 0, 0, [], 0
+    present, scale = sizes, capacity
+    for place, field in enumerate(steps, start=1):
+        number, length, present, scale = take_step(field, scale, present, working, lst)
+        if number != ACCEPTED:
+            return number, place, length, [], 0
+    return ACCEPTED, 0, 0, present, scale
+
+
+def judge_list(fields, working, lst):
+    """The same of the one list of kinds 1 and 2."""
+    capacity, sizes = number_of(value_of(fields, CAPACITY)), sizes_of(fields)
+    counts, blocks, steps = counts_of(fields), blocks_of(fields), steps_of(fields)
+    return judge(kind_of(fields), capacity, sizes, counts, blocks, steps, working, lst)
+
+
+# 02, ticket 9: Floor
+
+def refused_floor(number, step=0, length=0):
+    """The answer to a job that is refused."""
+    return number, 0, 0, 0, 0, step, length, 0, 0
 
 
 def floor_of(total, scale):
@@ -515,24 +552,9 @@ def block_floors(present, counts, blocks, scale):
     return floors
 
 
-def judge(kind, capacity, sizes, counts, blocks, steps, working, lst):
-    """Operations, Job; 02, tickets 4 and 6: a list or a row in full: refusals
-    1, 17, 22 and 23, then the steps in order -> (number, step, length, images,
-    scale)."""
-    number = list_refusal(kind, capacity, sizes, counts, blocks)
-    if number != ACCEPTED:
-        return number, 0, 0, [], 0
-    present, scale = sizes, capacity
-    for place, field in enumerate(steps, start=1):
-        number, length, present, scale = take_step(field, scale, present, working, lst)
-        if number != ACCEPTED:
-            return number, place, length, [], 0
-    return ACCEPTED, 0, 0, present, scale
-
-
 def floor_answer(present, counts, blocks, scale, lent_blocks):
-    """Operations, Job; 02, ticket 6: an accepted floor job's answer, and its
-    block floors written. Without blocks the total is the whole floor."""
+    """02, tickets 4 and 6: an accepted job's answer, and its block floors
+    written. Without blocks the total is the whole floor."""
     floors = [] if blocks is None else block_floors(present, counts, blocks, scale)
     lent_blocks[:len(floors)] = floors
     whole = total_of(present, counts)
@@ -541,50 +563,60 @@ def floor_answer(present, counts, blocks, scale, lent_blocks):
     return ACCEPTED, len(present), floor, whole, scale, 0, 0, 0, total
 
 
-def list_job(kind, fields, images, working, lst, lent_blocks):
-    """Operations, Job; 02, ticket 6: kinds 1 and 2, with their fields in order."""
-    capacity, sizes = number_of(value_of(fields, CAPACITY)), sizes_of(fields)
-    counts, blocks, steps = counts_of(fields), blocks_of(fields), steps_of(fields)
-    number, step, length, present, scale = judge(kind, capacity, sizes, counts, blocks, steps, working, lst)
+def floor(data, images, working, lst, blocks):
+    """02, ticket 9, Floor -> (number, n, floor, sum, scale, step, length, row,
+    total). No refusal has a row."""
+    number, fields = read_job(data, (images, working, lst, blocks), FLOOR_PLACES, FLOOR_KINDS)
     if number != ACCEPTED:
-        return refused(number, step, length)
+        return refused_floor(number)
+    number, step, length, present, scale = judge_list(fields, working, lst)
+    if number != ACCEPTED:
+        return refused_floor(number, step, length)
     images[:len(present)] = present
-    if kind == CUT:
-        return ACCEPTED, len(present), 0, 0, scale, 0, 0, 0, 0
-    return floor_answer(present, counts, blocks, scale, lent_blocks)
+    return floor_answer(present, counts_of(fields), blocks_of(fields), scale, blocks)
 
 
-def rows_job(fields, images, working, lst, scales):
+# 02, ticket 9: Cut
+
+def refused_cut(number, step=0, length=0, row=0):
+    """The answer to a job that is refused."""
+    return number, 0, 0, step, length, row
+
+
+def cut_row(fields, images, working, lst):
+    """Kind 2."""
+    number, step, length, present, scale = judge_list(fields, working, lst)
+    if number != ACCEPTED:
+        return refused_cut(number, step, length)
+    images[:len(present)] = present
+    return ACCEPTED, len(present), scale, 0, 0, 0
+
+
+def cut_rows(fields, images, working, lst, scales):
     """02, ticket 1: kind 3. Every row is judged in full before the next; it has no counts and no blocks."""
     rows, steps = rows_of(fields), steps_of(fields)
     if rows_refused(rows):
-        return refused(BAD_ROWS)
+        return refused_cut(BAD_ROWS)
     all_images, all_scales = [], []
     for place, (right, *coefficients) in enumerate(rows, start=1):
         number, step, length, present, scale = judge(ROWS, right, coefficients, (), None, steps, working, lst)
         if number != ACCEPTED:
-            return refused(number, step, length, place)
+            return refused_cut(number, step, length, place)
         all_images += present
         all_scales.append(scale)
     images[:len(all_images)] = all_images
     scales[:len(all_scales)] = all_scales
-    return ACCEPTED, len(all_images), 0, 0, 0, 0, 0, 0, 0
+    return ACCEPTED, len(all_images), 0, 0, 0, 0
 
 
-def job(data, images, working, lst, scales, blocks):
-    """Operations, Job -> (number, n, floor, sum, scale, step, length, row, total)."""
-    number = early_job_refusal(data, images, working, lst, scales, blocks)
+def cut(data, images, working, lst, scales):
+    """02, ticket 9, Cut -> (number, n, scale, step, length, row). The scale of many rows is 0: each has its own."""
+    number, fields = read_job(data, (images, working, lst, scales), CUT_PLACES, CUT_KINDS)
     if number != ACCEPTED:
-        return refused(number)
-    number, fields = read_fields(data)
-    if number != ACCEPTED:
-        return refused(number)
-    kind = kind_of(fields)
-    if kind == ROWS:
-        return rows_job(fields, images, working, lst, scales)
-    if kind not in (FLOOR, CUT):
-        return refused(BAD_KIND)
-    return list_job(kind, fields, images, working, lst, blocks)
+        return refused_cut(number)
+    if kind_of(fields) == ROWS:
+        return cut_rows(fields, images, working, lst, scales)
+    return cut_row(fields, images, working, lst)
 
 
 # 01, Operations: Sweep
@@ -737,25 +769,36 @@ def blocks_text(data, floors):
     return "" if blocks is None else line("blocks", floors[:len(blocks)])
 
 
-def text_of(data):
-    """The hand-over program: its text for a job."""
-    images, working = [0] * JOB_IMAGES, [0] * JOB_WORKING
-    lst, scales, blocks = [0] * JOB_LIST, [0] * JOB_SCALES, [0] * JOB_BLOCKS
-    number, n, floor, whole, scale, step, length, row, _ = job(data, images, working, lst, scales, blocks)
+def calls_cut(data):
+    """02, ticket 9: the program calls the cut operation if the fourth byte is 2 or 3, else the floor operation."""
+    return len(data) >= 4 and data[3] in CUT_KINDS
+
+
+def text_of_floor(data):
+    """The hand-over program: its text by the floor operation."""
+    images, working, lst, blocks = ([0] * places for places in FLOOR_PLACES)
+    number, n, bound, whole, scale, step, length, row, _ = floor(data, images, working, lst, blocks)
     if number != ACCEPTED:
         return refusal_text(data, number, row, step, lst[:length])
-    kind = data[3]  # an accepted job has its kind there
-    if kind == ROWS:
-        return rows_text(data, images, scales)
-    if kind == CUT:
-        return cut_text(scale, images[:n])
-    first = line("floor", [floor]) + line("sum", [whole])
+    first = line("floor", [bound]) + line("sum", [whole])
     return first + cut_text(scale, images[:n]) + blocks_text(data, blocks)
+
+
+def text_of_cut(data):
+    """The hand-over program: its text by the cut operation."""
+    images, working, lst, scales = ([0] * places for places in CUT_PLACES)
+    number, n, scale, step, length, row = cut(data, images, working, lst, scales)
+    if number != ACCEPTED:
+        return refusal_text(data, number, row, step, lst[:length])
+    if data[3] == ROWS:  # an accepted job has its kind there
+        return rows_text(data, images, scales)
+    return cut_text(scale, images[:n])
 
 
 def program(data):
     """The hand-over program: what it prints for a job."""
-    return text_of(data).encode()
+    text = text_of_cut(data) if calls_cut(data) else text_of_floor(data)
+    return text.encode()
 
 
 if __name__ == "__main__":

@@ -173,21 +173,43 @@ static void table(void)
     print_buffer(&list);
 }
 
-/* The working buffer is free after a job, and is not printed. */
-static void job(void)
+/* What both operations over a job get: `own` is the buffer that the other one does not have. The working
+ * buffer is free afterwards, and is not printed. */
+struct job {
+    uint8_t data[ROOM_BYTES];
+    size_t count;
+    struct lent images, working, list, own;
+};
+
+static uint32_t *places(struct lent *buffer)
 {
-    static uint8_t data[ROOM_BYTES];
-    static struct lent images, working, list, scales, blocks;
-    size_t count = bytes("job", data);
-    uint32_t *lent_images = lend(&images, "images", 4, 2048);
-    uint64_t *lent_working = lend(&working, "working", 8, 2048);
-    uint32_t *lent_list = lend(&list, "list", 4, 2047);
-    uint32_t *lent_scales = lend(&scales, "scales", 4, 64);
-    uint32_t *lent_blocks = lend(&blocks, "blocks", 4, 64);
-    struct windowfloor_job_answer answer =
-        windowfloor_job(data, count, lent_images, images.places, lent_working, working.places,
-                        lent_list, list.places, lent_scales, scales.places, lent_blocks,
-                        blocks.places);
+    return (uint32_t *)buffer->memory + MARGIN;
+}
+
+static void lend_to_job(struct job *job, const char *own)
+{
+    job->count = bytes("job", job->data);
+    lend(&job->images, "images", 4, 2048);
+    lend(&job->working, "working", 8, 2048);
+    lend(&job->list, "list", 4, 2047);
+    lend(&job->own, own, 4, 64);
+}
+
+static void print_buffers(const struct job *job)
+{
+    print_buffer(&job->images);
+    print_buffer(&job->list);
+    print_buffer(&job->own);
+}
+
+static void floor_of_job(void)
+{
+    static struct job job;
+    lend_to_job(&job, "blocks");
+    struct windowfloor_floor_answer answer =
+        windowfloor_floor(job.data, job.count, places(&job.images), job.images.places,
+                          job.working.memory + MARGIN, job.working.places, places(&job.list),
+                          job.list.places, places(&job.own), job.own.places);
     PRINT(answer, number);
     PRINT(answer, n);
     PRINT(answer, floor);
@@ -197,10 +219,24 @@ static void job(void)
     PRINT(answer, length);
     PRINT(answer, row);
     PRINT(answer, total);
-    print_buffer(&images);
-    print_buffer(&list);
-    print_buffer(&scales);
-    print_buffer(&blocks);
+    print_buffers(&job);
+}
+
+static void cut_of_job(void)
+{
+    static struct job job;
+    lend_to_job(&job, "scales");
+    struct windowfloor_cut_answer answer =
+        windowfloor_cut(job.data, job.count, places(&job.images), job.images.places,
+                        job.working.memory + MARGIN, job.working.places, places(&job.list),
+                        job.list.places, places(&job.own), job.own.places);
+    PRINT(answer, number);
+    PRINT(answer, n);
+    PRINT(answer, scale);
+    PRINT(answer, step);
+    PRINT(answer, length);
+    PRINT(answer, row);
+    print_buffers(&job);
 }
 
 static size_t given_counts(uint16_t *out)
@@ -252,7 +288,7 @@ static void sweep(void)
  * it is is free. */
 static int take_assignment(struct lent *windows, const struct list *list, uint64_t capacity, uint64_t fewest)
 {
-    uint32_t copies[WINDOWFLOOR_MOST_COPIES], *shown = (uint32_t *)windows->memory + MARGIN;
+    uint32_t copies[WINDOWFLOOR_MOST_COPIES], *shown = places(windows);
     size_t n = write_copies(list->sizes, list->n, list->counts, copies);
     int fits = is_assignment(capacity, copies, n, shown, fewest);
     for (size_t i = 0; i < n; i++)
@@ -280,8 +316,8 @@ static void exact(void)
 static const struct {
     const char *name;
     void (*run)(void);
-} operations[] = {{"image", image}, {"table", table}, {"job", job}, {"sweep", sweep},
-                  {"exact", exact}};
+} operations[] = {{"image", image}, {"table", table}, {"floor", floor_of_job}, {"cut", cut_of_job},
+                  {"sweep", sweep}, {"exact", exact}};
 
 static void run_line(void)
 {

@@ -2,13 +2,18 @@
 of the stored form."""
 
 import sys
+from functools import lru_cache, partial
 from pathlib import Path
 
 sys.path.insert(0, str(Path(__file__).resolve().parents[1] / "reference"))
 import windowfloor as wf
 
 NARROW, WIDE = 4_294_000_000, 2**63  # what place 0 of a buffer holds before the call
-JOB_PLACES = dict(images=2048, working=2048, list=2047, scales=64, blocks=64)  # at least
+
+# The buffers of the operations over a job, with the places that they have at least, and the fields of their answers.
+SHARED = dict(images=2048, working=2048, list=2047)
+LENT = dict(floor=SHARED | dict(blocks=64), cut=SHARED | dict(scales=64))
+FIELDS = dict(floor="number n floor sum scale step length row total", cut="number n scale step length row")
 
 
 def places_of(given, name, least):
@@ -16,12 +21,20 @@ def places_of(given, name, least):
     return range(given.get(name + "_places", least))
 
 
+@lru_cache
+def untouched(places, start):
+    return list(range(start, start + places))
+
+
 def lend(given, name, least, start=NARROW):
-    return [start + i for i in places_of(given, name, least)]
+    return list(untouched(len(places_of(given, name, least)), start))
 
 
 def changed(places, start=NARROW):
-    return {i: number for i, number in enumerate(places) if number != start + i}
+    before = untouched(len(places), start)
+    if places == before:  # quicker
+        return {}
+    return {i: number for i, number in enumerate(places) if number != before[i]}
 
 
 def named(names, numbers):
@@ -39,17 +52,12 @@ def table(given):
     return answer | dict(working=changed(working, WIDE), list=changed(listed))
 
 
-def lent(given):
-    """The buffers of a job, in the order of their names above."""
-    return [lend(given, name, least, WIDE if name == "working" else NARROW) for name, least in JOB_PLACES.items()]
-
-
-def job(given):
-    images, working, listed, scales, blocks = lent(given)
-    numbers = wf.job(given["job"], images, working, listed, scales, blocks)
-    answer = named("number n floor sum scale step length row total", numbers)
-    buffers = dict(images=images, list=listed, scales=scales, blocks=blocks)
-    return answer | {name: changed(places) for name, places in buffers.items()}
+def over_a_job(operation, given):
+    """The working buffer is free afterwards, and is left out."""
+    lent = {name: lend(given, name, least, WIDE if name == "working" else NARROW)
+            for name, least in LENT[operation].items()}
+    answer = named(FIELDS[operation], getattr(wf, operation)(given["job"], *lent.values()))
+    return answer | {name: changed(places) for name, places in lent.items() if name != "working"}
 
 
 def counted(given):
@@ -76,8 +84,13 @@ def text(given):
     return dict(status=0, errors=0, text=wf.program(given["job"]).decode())
 
 
-OPERATIONS = dict(image=image, table=table, job=job, sweep=sweep, exact=exact, text=text)
+OPERATIONS = dict(image=image, table=table, floor=partial(over_a_job, "floor"), cut=partial(over_a_job, "cut"),
+                  sweep=sweep, exact=exact, text=text)
 
 
 def answer(operation, given):
     return OPERATIONS[operation](given)
+
+
+def answers(operation, inputs):
+    return [answer(operation, given) for given in inputs]

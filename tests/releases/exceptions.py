@@ -6,13 +6,13 @@ never about what was answered or is answered now:
     Rule(request, operations, applies, why, fields=(), now=None)
 
     request     the number of the request that changes the answers
-    operations  of image, table, job, sweep, exact, text
+    operations  the stored ones: of image, table, job, floor, cut, sweep, exact, text
     applies     whether the rule is about an input: a function of what is given,
                 a dictionary with the names of the stored form
     why         the request's words, in a sentence
     fields      the fields and buffers of the answer that change; if empty, all
-    now         if given, a function of the operation and what is given: the answer
-                that it must have today, as by_reference.answer
+    now         if given, a function of the operation that is asked today and what is
+                given: the answer that it must have, as by_reference.answer
 
 A rule is about the releases before `request-N`. `fields_of` in stored.py gives
 the fields of a job."""
@@ -20,9 +20,12 @@ the fields of a job."""
 from typing import Callable, NamedTuple, Optional
 
 import by_reference
-from by_reference import wf
+from by_reference import LENT, wf
 from edges import BEFORE
+from jobs import called, short
 from stored import fields_of
+
+BEFORE_9 = LENT["floor"] | LENT["cut"]  # the buffers of a job
 
 
 class Rule(NamedTuple):
@@ -43,10 +46,9 @@ def fourth_byte_3(given):
     return given["job"][3:4] == b"\3"
 
 
-def is_read(given):
+def is_read(given, lent=BEFORE_9):
     """Neither 12 nor 7 is told. Of the buffers their lengths count alone."""
-    places = (by_reference.places_of(given, name, least) for name, least in by_reference.JOB_PLACES.items())
-    return wf.early_job_refusal(given["job"], *places) == wf.ACCEPTED
+    return len(given["job"]) <= wf.MOST_JOB_BYTES and not short(given, lent)
 
 
 def lists_of(kind, fields):
@@ -235,6 +237,11 @@ def job_over_the_old_limit(given):
     return reaches(given, step_over_the_old_limit, is_raised)
 
 
+def short_of_the_others_buffer(given):
+    """Before request 9 a job had the buffer of the other operation too, and 7 was told of it alone."""
+    return is_read(given, LENT[called("job", given)]) and not is_read(given)
+
+
 EXCEPTIONS = [
     Rule(1, ("job",), of_kind_3, "kind 3 is read by another grammar, as rows", now=by_reference.answer),
     Rule(1, ("text",), fourth_byte_3, "a refusal prints the row too if the job's fourth byte is 3; no job with that "
@@ -259,4 +266,7 @@ EXCEPTIONS = [
          "to 4,000,000,000, was over the limit: 1, 3, 4 and 10 begin at higher values", now=by_reference.answer),
     Rule(7, ("sweep",), sweep_over_the_old_limit, "a sweep reaches a capacity or parameters formerly refused for the "
          "limit", now=by_reference.answer),
+    Rule(9, ("job",), short_of_the_others_buffer, "the block buffer goes with the floor operation, the buffer of each "
+         "row's E with the cut operation: 7 goes where the one that is no longer lent was the only short one",
+         now=by_reference.answer),
 ]

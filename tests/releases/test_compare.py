@@ -19,7 +19,8 @@ from compare import compare
 from exceptions import BEFORE, EXCEPTIONS, Rule
 from inputs_base import IDENTITY, family, field, halves, head, image, job, row, tabled
 from inputs_request_1 import KIND_3, model
-from stored import LIST, pack_bytes, pack_numbers, unpack, unpack_bytes, unpack_numbers
+from jobs import called, refused_by_the_other
+from stored import LIST, pack, pack_bytes, pack_numbers, unpack, unpack_bytes, unpack_numbers
 
 LIMIT = wf.LIMIT
 IMAGE = "capacity=10 family=1 p=3 q=0 x=8 -> number=0 image=10 scale=10"
@@ -28,6 +29,12 @@ JOB = ("job=01000101.0200040000000a.03000400000006 -> "
        "number=0 n=1 floor=1 sum=6 scale=10 step=0 length=0 images=0:6 list=same")
 ROWS = ("job=01000103.06000c0000000a0000000700000003.06000400000009 -> "
         "number=0 n=2 floor=0 sum=0 scale=0 step=0 length=0 row=0 images=0:7,3 list=same scales=0:10,9")
+NO_ROWS = ("job=01000103 -> number=21 n=0 floor=0 sum=0 scale=0 step=0 length=0 row=0 total=0 images=same list=same "
+           "scales=same blocks=same")
+KIND_2 = ("job=01000102.0200040000000a.03000400000006 -> "
+          "number=0 n=1 floor=0 sum=0 scale=10 step=0 length=0 images=0:6 list=same")
+KIND_4 = ("job=01000104.0200040000000a.030000 -> "
+          "number=16 n=0 floor=0 sum=0 scale=0 step=0 length=0 images=same list=same")
 OTHER_TABLE = ("job=01000101.0200040000000a.030000.05001000000000000000000000000200000001 -> "
                "number=11 n=0 floor=0 sum=0 scale=0 step=1 length=2 images=same list=0:1,2")
 COUNTED = ("job=01000101.0200040000000a.03000400000006.070002012c -> "
@@ -56,9 +63,26 @@ OLD_LIMIT = dict(  # answers that request 7 changes
     sweep="capacity=10 family=2 sizes=6*3 low=100000001 high=100000001 -> number=20 floor=0 p=0")
 SWEEP = "capacity=10 family=1 sizes=6*3 low=0 high=5 -> number=0 floor=3 p=5"
 EXACT = "capacity=10 sizes=7,3,5 counts=1,1,2 -> number=0 fewest=2 fits=1 windows=same"
+FLOOR = ("job=01000101.0200040000000a.03000c000000070000000600000003.08000400020001 blocks_places=70 -> "
+         "number=0 n=3 floor=2 sum=16 scale=10 step=0 length=0 row=0 total=3 images=0:7,6,3 list=same blocks=0:2,1")
+CUT = ("job=01000103.06000c0000000a0000000700000003.06000400000009 -> "
+       "number=0 n=2 scale=0 step=0 length=0 row=0 images=0:7,3 list=same scales=0:10,9")
 TEXT = "job= -> status=0 errors=0 text='refused 14 0\\n'"
-CASES = dict(image=IMAGE, table=TABLE, job=JOB, sweep=SWEEP, exact=EXACT, text=TEXT)
+CASES = dict(image=IMAGE, table=TABLE, job=JOB, floor=FLOOR, cut=CUT, sweep=SWEEP, exact=EXACT, text=TEXT)
 BAD_TABLES = tabled(1, 0, 1), tabled(0, 1, 0), tabled(0, 0, LIMIT + 1), tabled(0, 1, 1)  # 8 to 11, of capacity 2
+OF_FLOOR = job(1, 10, (3,)), job(4, 10, (3,)), job(1, 10, (11,)), b"\3\3\3", b"", b"\2\0\1\1"
+OF_CUT = job(2, 10, (3,)), model([(10, 3)]), KIND_3, job(2, 0, ()), b"\xff\0\1\2", b"\2\0\1\3"
+
+ANSWERERS = (today, "answers", "today"), (today, "by_c_reference", "C"), (by_reference, "answers", "Python")
+
+
+def answering(module, name, operation, change):
+    """Its answers of an operation have other words."""
+    answers = getattr(module, name)
+
+    def changed(asked, inputs):
+        return [answer | (change if asked == operation else {}) for answer in answers(asked, inputs)]
+    return mock.patch.object(module, name, changed)
 
 
 def always(given):
@@ -96,7 +120,7 @@ class Comparison(unittest.TestCase):
         self.assert_fails(f"base/{operation}.txt, line 1: {field}", {operation: changed})
 
     def test_right_answers(self):
-        self.assert_passes("base: 6 cases compared", CASES)
+        self.assert_passes("base: 8 cases compared", CASES)
         self.assert_passes("base: 1 cases compared", dict(job=ROWS))
         self.assert_passes("base: 1 cases compared", dict(job=BLOCKS))
 
@@ -108,6 +132,10 @@ class Comparison(unittest.TestCase):
                 ("table", "0:0,1,2,3", "0:0,1,2,3,5", "working"), ("table", "0:1,1,1", "0:1,1", "list"),
                 ("table", "0:1,1,1", "same", "list"), ("job", "sum=6", "sum=7", "sum"),
                 ("job", "images=0:6", "images=same", "images"), ("job", "list=same", "list=2046:1", "list"),
+                ("floor", "total=3", "total=2", "total"), ("floor", "row=0", "row=1", "row"),
+                ("floor", "blocks=0:2,1", "blocks=0:2,1;69:1", "blocks"), ("floor", "0:7,6,3", "same", "images"),
+                ("cut", "scale=0", "scale=10", "scale"), ("cut", "scales=0:10,9", "scales=0:10", "scales"),
+                ("cut", "list=same", "list=0:1", "list"), ("cut", "number=0", "number=0 sum=0", "sum"),
                 ("exact", "fewest=2", "fewest=3", "fewest"), ("exact", "number=0", "number=24", "number"),
                 ("exact", "fits=1", "fits=0", "fits"), ("exact", "windows=same", "windows=4:1", "windows"),
                 ("text", "14 0\\n", "14 0", "text"), ("text", "status=0", "status=1", "status"),
@@ -140,12 +168,91 @@ class Comparison(unittest.TestCase):
         self.assert_finds("job", row_2, " row=2", "", "row")
 
     def test_places_of_scales_and_blocks(self):
+        """A short one is told of the operation that has it, and of the other one until request 9."""
+        rules = [rule for rule in EXCEPTIONS if rule.request == 9]
         short = "number=7 n=0 floor=0 sum=0 scale=0 step=0 length=0 row=0 images=same list=same scales=same"
-        for line, name in itertools.product((JOB, ROWS, BLOCKS), ("scales", "blocks")):
+        for line, own, other in ((JOB, "blocks", "scales"), (ROWS, "scales", "blocks"), (BLOCKS, "blocks", "scales")):
             given, answer = line.split(" -> ")
-            for places, due in ((63, short), (64, answer), (70, answer)):
-                self.assert_passes("1 cases compared", dict(job=f"{given} {name}_places={places} -> {due}"))
-            self.assert_fails("number", dict(job=f"{given} {name}_places=63 -> {answer}"))
+            for places, due in ((0, short), (63, short), (64, answer), (70, answer)):
+                self.assert_passes("1 cases compared", dict(job=f"{given} {own}_places={places} -> {due}"))
+            self.assert_fails("line 1: number", dict(job=f"{given} {own}_places=63 -> {answer}"))
+            for places in (0, 63):
+                stored = dict(job=f"{given} {other}_places={places} -> {short}")
+                self.assert_passes("request 9: 1 cases", stored, rules, release="request-8")
+                self.assert_fails("line 1: number", stored)
+            for places in (64, 70):
+                self.assert_passes("1 cases compared", dict(job=f"{given} {other}_places={places} -> {answer}"))
+
+    def test_what_a_request_took_away(self):
+        """Stored otherwise than it must have been, it is found, in a job that a rule is about too."""
+        for line, changes in ((JOB, ("scales=63:1",)), (BLOCKS, ("scales=0:10",)), (KIND_4, ("scales=0:10",)),
+                              (NO_ROWS, ("floor=1", "total=1")),
+                              (ROWS, ("floor=1", "sum=10", "total=1", "blocks=0:1"))):
+            for change in changes:
+                name = change.split("=")[0]
+                words = [word for word in line.split() if not word.startswith(name + "=")]
+                stored = " ".join(words + [change])
+                for rules in ((), (Rule(9, ("job",), always, "all", now=by_reference.answer),)):
+                    self.assert_fails(f"  stored  {change}", dict(job=stored), rules)
+
+    def test_which_operation_is_called(self):
+        """By the fourth byte, whatever stands before it."""
+        for data, operation in (("", "floor"), ("020202", "floor"), ("030303", "floor"), ("01000101", "floor"),
+                                ("01000102", "cut"), ("01000103", "cut"), ("01000104", "floor"), ("01000100", "floor"),
+                                ("ffffff02", "cut"), ("ffffff03", "cut"), ("0200040200000a", "cut"),
+                                ("0100020102", "floor"), ("02020201", "floor")):
+            self.assertEqual(called("job", dict(job=bytes.fromhex(data))), operation, data)
+        self.assertEqual(called("text", dict(job=b"\1\0\1\3")), "text")
+
+    def assert_asked(self, operation, line, changes, stored="job"):
+        """The library and both references are asked of this operation, and every change of an answer is found."""
+        self.assert_passes("1 cases compared", {stored: line})
+        for change, (module, answers, who) in [*itertools.product(changes, ANSWERERS[:1]),
+                                               *itertools.product(changes[:1], ANSWERERS[1:])]:
+            with answering(module, answers, operation, change):
+                passed, printed = passes({stored: line})
+            self.assertFalse(passed)
+            self.assertIn(f"base/{stored}.txt, line 1: {', '.join(change)}\n", printed)
+            self.assertIn(f"  {who}  {pack(change, True)}\n", printed)
+
+    def test_the_other_operation(self):
+        """It refuses the job, and writes nothing."""
+        changes = [dict(number=0), dict(number=1), dict(number=14), dict(n=1), dict(scale=10), dict(step=1),
+                   dict(length=1), dict(row=1), dict(images={0: 6}), dict(list={2046: 0}), dict(number=0, n=1)]
+        for line in (JOB, BLOCKS, KIND_4):
+            self.assert_asked("cut", line, [dict(number=21), dict(scales={0: 10})] + changes)
+        for line in (ROWS, NO_ROWS, KIND_2):
+            self.assert_asked("floor", line, [dict(number=21), dict(floor=1), dict(sum=6), dict(total=1),
+                                              dict(blocks={0: 1})] + changes)
+
+    def test_the_number_of_the_other_operation(self):
+        """What a job's own operation is due to say, and what the other one has to say by the request's words."""
+        short = dict(images_places=2047), dict(working_places=0), dict(list_places=2046)
+        for own, its, others in (("floor", "blocks", "scales"), ("cut", "scales", "blocks")):
+            its, others = its + "_places", others + "_places"
+            fine, broken = (job(kind, 10, (3,)) for kind in ((1, 4) if own == "floor" else (2, 2)))
+            broken += b"\4"
+            for data, places, number, due in (
+                    [(fine, {}, number, 16) for number in (0, 1, 2, 3, 4, 8, 9, 10, 11, 16, 17, 18, 21, 22, 23)]
+                    + [(broken, {}, number, number) for number in (13, 14, 15)]
+                    + [(bytes(65_536), places, 12, 12) for places in ({}, {its: 0}, {others: 0})]
+                    + [(data, places, 7, 7) for data in (fine, broken) for places in short]
+                    + [(data, {others: 63}, number, 7) for data, number in ((fine, 0), (fine, 16), (broken, 13))]
+                    + [(data, {its: 63, others: 63}, 7, 7) for data in (fine, broken)]
+                    + [(fine, {its: 63}, 7, 16), (broken, {its: 63}, 7, 13), (fine, {its: 64, others: 64}, 0, 16)]):
+                other, answer = refused_by_the_other(own, dict(job=data, **places), number)
+                self.assertEqual(list(answer), list(by_reference.answer(other, dict(job=data, **places))))
+                self.assertEqual({name: value for name, value in answer.items() if value}, dict(number=due))
+
+    def test_jobs_of_the_newest_operations(self):
+        """Stored under their names they are asked of no other one."""
+        self.assert_asked("floor", FLOOR, [dict(number=16), dict(total=2), dict(blocks={0: 2})], "floor")
+        self.assert_asked("cut", CUT, [dict(number=16), dict(scale=10), dict(scales={})], "cut")
+        for module, answers, _ in ANSWERERS:
+            with answering(module, answers, "cut", dict(number=0)):
+                self.assert_passes("asked of the other operation too: 0 jobs", dict(floor=FLOOR))
+        kind_2 = CUT.split(" -> ")[0] + " -> " + FLOOR.split(" -> ")[1]
+        self.assert_fails("line 1: number, n, floor, sum, scale, total, images, blocks", dict(floor=kind_2))
 
     def assert_sweeps(self, answer, *lists):
         """The library, and the independent implementation for rules, give this answer for each list."""
@@ -216,7 +323,7 @@ class Comparison(unittest.TestCase):
             self.assertEqual(passes(wrong, [rule])[0], right)
 
     def test_what_the_c_reference_says(self):
-        """It is asked where a rule says what the answer is instead and for the newest operation, and nowhere else."""
+        """It is asked where a rule says what the answer is instead and for the newest operations, and nowhere else."""
         rule = Rule(2, ("image",), always, "all", now=by_reference.answer)
         wrong = dict(number=0, image=9, scale=10)
         with mock.patch.object(today, "by_c_reference", lambda operation, inputs: [wrong for _ in inputs]):
@@ -228,7 +335,7 @@ class Comparison(unittest.TestCase):
             self.assert_fails("  C  fewest=3", dict(exact=EXACT))
 
     def test_what_the_reference_in_python_says(self):
-        """It is asked for the newest operation."""
+        """It is asked for the newest operations."""
         with mock.patch.object(wf, "best_windows", lambda capacity, copies: [1, 2, 12]):
             self.assert_fails("  Python  fewest=3", dict(exact=EXACT))
         self.assert_passes("1 cases compared", dict(exact=EXACT))
@@ -517,6 +624,26 @@ class Exceptions(unittest.TestCase):
             data + bytes(65_536), KIND_3 + family(2, over), model([(10, 11), (over,)]), model([(0,), (over,)]),
             model([(10,), (over,)], family(8, 1)), model([(over,)] * 65))
         self.assert_not_with_short_buffers(7, data)
+
+    def test_request_9_applies(self):
+        """Whatever the job is, but for its fourth byte."""
+        for data, name in itertools.product(OF_FLOOR, ("scales", "blocks")):
+            self.assertEqual(self.excepted(9, "job", data, **{name + "_places": 63}), name == "scales", data)
+        for data, name in itertools.product(OF_CUT, ("scales", "blocks")):
+            self.assertEqual(self.excepted(9, "job", data, **{name + "_places": 0}), name == "blocks", data)
+        self.assertTrue(self.excepted(9, "job", OF_FLOOR[0], scales_places=63, blocks_places=64, list_places=2047))
+
+    def test_request_9_does_not_apply(self):
+        """12, a short buffer that is still lent, or none."""
+        for data in OF_FLOOR + OF_CUT:
+            other = "scales_places" if data in OF_FLOOR else "blocks_places"
+            self.assertFalse(self.excepted(9, "job", data))
+            self.assertFalse(self.excepted(9, "job", data, scales_places=64, blocks_places=70))
+            self.assertFalse(self.excepted(9, "job", data, scales_places=63, blocks_places=63))
+            self.assertFalse(self.excepted(9, "job", (data + bytes(65_536))[:65_536], **{other: 63}))
+            self.assertTrue(self.excepted(9, "job", (data + bytes(65_536))[:65_535], **{other: 63}))
+            for name, places in (("images", 2047), ("working", 2047), ("list", 2046)):
+                self.assertFalse(self.excepted(9, "job", data, **{other: 63, name + "_places": places}))
 
 
 class StoredForm(unittest.TestCase):

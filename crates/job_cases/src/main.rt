@@ -1,15 +1,17 @@
-// Runs the job operation on the cases of standard input, a line each, in decimal, one space
-// between: i w l s f b k and k runs. The image, working, list and scales buffers and that of the
-// blocks' floors have i, w, l, s and f places, and the job b bytes: those of the runs (count, byte) in
-// turn, and 0 behind them; what does not fit is ignored. Empty lines are skipped: they fill up a block
-// of 65,536 bytes, as no case lies in two. Writes a line for each answer: its nine numbers, then a
-// checksum of each buffer but the working one.
+// Runs the floor and the cut operation on the cases of standard input, a line each, in decimal, one
+// space between: o i w l p b k and k runs. The operation is that of the cut if o is 2, else that of the
+// floor. The image, working and list buffers and its own, for the blocks' floors or for the scales,
+// have i, w, l and p places, and the job b bytes: those of the runs (count, byte) in turn, and 0 behind
+// them; what does not fit is ignored. Empty lines are skipped: they fill up a block of 65,536 bytes, as
+// no case lies in two. Writes a line for each answer: its nine or six numbers, then a checksum of each
+// buffer but the working one.
 #![tactic(auto)]
 
 ghost use Rattle.cases.specs.Onward.{PassesSome};
 
+use cuts::CutAnswer;
 use decimal::Numbers;
-use jobs::JobAnswer;
+use floors::FloorAnswer;
 use std::fmt;
 use std::io::{self, Write};
 
@@ -24,15 +26,28 @@ const MOST_BYTES: usize = fields::MOST_BYTES + 1;
 // The most places of a buffer.
 const MOST_PLACES: usize = 2_100;
 
+// The o of the cut operation.
+const CUT: u64 = 2;
+
 // The numbers of an answer, one space between.
 #[derive(Drop)]
-struct Shown(JobAnswer);
+enum Shown {
+    Floor(FloorAnswer),
+    Cut(CutAnswer),
+}
 
 impl fmt::Display for Shown {
     fn fmt<W: fmt::Write>(&self, f: &mut fmt::Formatter<W>) -> fmt::Result {
-        let Shown(a) = self;
-        write!(f, "{} {} {} {} {}", a.number, a.n, a.floor, a.sum, a.scale)?;
-        write!(f, " {} {} {} {}", a.step, a.length, a.row, a.total)
+        match self {
+            Shown::Floor(a) => {
+                write!(f, "{} {} {} {} {}", a.number, a.n, a.floor, a.sum, a.scale)?;
+                write!(f, " {} {} {} {}", a.step, a.length, a.row, a.total)
+            }
+            Shown::Cut(a) => {
+                write!(f, "{} {} {}", a.number, a.n, a.scale)?;
+                write!(f, " {} {} {}", a.step, a.length, a.row)
+            }
+        }
     }
 }
 
@@ -44,27 +59,25 @@ fn lent(buffer: &mut [u32], places: u64, first: u32) -> &mut [u32] {
 }
 
 // Runs the job with buffers of so many places.
-fn run_job<W: Write>(out: &mut W, job: &[u8], places: [u64; 5]) -> io::Result<()> {
-    let [i, w, l, s, f] = places;
+fn run_job<W: Write>(out: &mut W, operation: u64, places: [u64; 4], job: &[u8]) -> io::Result<()> {
+    let [i, w, l, p] = places;
     let mut images = [0u32; MOST_PLACES];
     let mut working = [0u64; MOST_PLACES];
     let mut list = [0u32; MOST_PLACES];
-    let mut scales = [0u32; MOST_PLACES];
-    let mut floors = [0u32; MOST_PLACES];
+    let mut own = [0u32; MOST_PLACES];
     let images = lent(&mut images, i, 800_000);
     let working = buffers::front(&mut working, w);
     buffers::fill_working(working);
     let list = lent(&mut list, l, 900_000);
-    let scales = lent(&mut scales, s, 700_000);
-    let floors = lent(&mut floors, f, 600_000);
-    let answer = jobs::windowfloor_job(job, images, working, list, scales, floors);
+    let own = lent(&mut own, p, 700_000);
+    let answer = if operation == CUT {
+        Shown::Cut(cuts::windowfloor_cut(job, images, working, list, own))
+    } else {
+        Shown::Floor(floors::windowfloor_floor(job, images, working, list, own))
+    };
     let (image_sum, list_sum) = (buffers::checksum(images), buffers::checksum(list));
-    let (scale_sum, floor_sum) = (buffers::checksum(scales), buffers::checksum(floors));
-    writeln!(
-        out,
-        "{} {image_sum} {list_sum} {scale_sum} {floor_sum}",
-        Shown(answer)
-    )
+    let own_sum = buffers::checksum(own);
+    writeln!(out, "{answer} {image_sum} {list_sum} {own_sum}")
 }
 
 // The case behind the empty lines, if there is one.
@@ -75,12 +88,12 @@ fn run_case<W: Write>(out: &mut W, numbers: &mut Numbers<'_>) -> io::Result<()>
     if numbers.is_done() {
         return Ok(());
     }
-    let places = numbers.next_numbers::<5>();
+    let [operation, i, w, l, p] = numbers.next_numbers::<5>();
     let mut job = [0u8; MOST_BYTES];
     let job = runs::put_runs(numbers, &mut job, |numbers, run| {
         run.fill(buffers::low_byte(numbers.next_number()));
     });
-    run_job(out, job, places)
+    run_job(out, operation, [i, w, l, p], job)
 }
 
 fn main(rt: HostRuntime) -> io::Result<()> {

@@ -16,20 +16,22 @@ use lib.Seq.{drop-cons}
 use Rattle.fields.specs.Bytes.{halfwords, words}
 use Rattle.fields.specs.Parts.{Field, value_of, Step, Row, job_kind, job_capacity, job_sizes, job_counts, block_numbers, job_steps, job_rows, coefficient_count}
 use Rattle.fields.specs.Grammar.{most_sizes, most_rows, rows_kind}
-use Rattle.fields.specs.Record.{no_row, row_in}
+use Rattle.fields.specs.Record.{no_row, row_in, steps_in, PartsOf}
 use Rattle.fields.specs.declared.JobRow.{JobRow}
+use Rattle.fields.specs.declared.JobParts.{JobParts}
 use Rattle.refusals.proofs.Numbers.{number_positive}
 use Rattle.chains.specs.Chain.{TablesPass}
-use Rattle.chains.specs.Apply.{ChainAppliable}
+use Rattle.chains.specs.Apply.{ChainAppliable, ChainApplied}
 use Rattle.chains.specs.Judge.{Judgement, plain, judge_list, StepOvershoots, list_by, Judged}
 use Rattle.chains.specs.declared.Refused.{Refused}
 use Rattle.fields.proofs.Filling.{no_counts}
 use Rattle.chains.proofs.Judged.{tables_pass, given_judged, list_appliable, list_divided, list_none, list_overshoots}
 use Rattle.refusals.proofs.Stopped.{stopped}
-use Rattle.jobs.specs.Kinds.{is_kind, least_of, rows_fit}
+use Rattle.jobs.specs.Kinds.{takes, least_of, rows_fit}
+use Rattle.jobs.specs.declared.kind.Operation.{Operation}
 use Rattle.jobs.specs.JudgeRows.{judge_row, in_row, judge_rows}
 use Rattle.blocks.specs.Block.{blocks_fit}
-use Rattle.jobs.specs.Job.{is_divided, blocks_right, judge_fields}
+use Rattle.jobs.specs.Job.{is_divided, blocks_right, judge_parts, judge_fields}
 
 -- how many rows and coefficients 21 leaves
 pub fit_bounds : (rows coefficients : ℕ) → rows_fit rows coefficients ≡ true → (rows ≤ most_rows) × (coefficients ≤ most_sizes)
@@ -142,18 +144,14 @@ module _ (S : List Step) (rows : List Row) where
     unfolding judge_rows
     rows_done l = so.verdict ∙ ap (judge_rows k S) (drop_of_length-le rows {i = k} l)
 
--- a whole job: refused by 16 or 21, or by its list or its rows
+-- a job of a kind that is taken, by its list or its rows
 module _ (fields : List Field) where
-  pub kind_refused : is_kind (job_kind fields) ≡ false → judge_fields fields ≡ plain 16
-  unfolding judge_fields
-  kind_refused e = rw e
-
   module _ (kind : job_kind fields ≡ rows_kind) where
-    pub rows_kind_lem : judge_fields fields ≡ cond (not (rows_fit (length (job_rows fields)) (coefficient_count (job_rows fields)))) (plain 21) (judge_rows 0 (job_steps fields) (job_rows fields))
-    unfolding judge_fields is_kind
+    pub rows_kind_lem : judge_parts fields ≡ cond (not (rows_fit (length (job_rows fields)) (coefficient_count (job_rows fields)))) (plain 21) (judge_rows 0 (job_steps fields) (job_rows fields))
+    unfolding judge_parts
     rows_kind_lem = rw kind
 
-    pub rows_fine : (judge_fields fields).number ≡ 0 → (rows_fit (length (job_rows fields)) (coefficient_count (job_rows fields)) ≡ true) × ((judge_rows 0 (job_steps fields) (job_rows fields)).number ≡ 0)
+    pub rows_fine : (judge_parts fields).number ≡ 0 → (rows_fit (length (job_rows fields)) (coefficient_count (job_rows fields)) ≡ true) × ((judge_rows 0 (job_steps fields) (job_rows fields)).number ≡ 0)
     unfolding plain
     rows_fine e = go (rows_fit (length (job_rows fields)) (coefficient_count (job_rows fields))) refl (sym (ap (λ (r : Judgement). r.number) rows_kind_lem) ∙ e)
       where
@@ -162,23 +160,36 @@ module _ (fields : List Field) where
         go false fits none = absurd (omega (arith, none))
 
   module _ (kind : job_kind fields ≡ rows_kind → ⊥) where
-    pub list_kind : is_kind (job_kind fields) ≡ true → judge_fields fields ≡ judge_list (least_of (job_kind fields)) (job_capacity fields) (job_sizes fields) (halfwords (value_of 7 fields)) (blocks_right fields) (job_steps fields)
-    unfolding judge_fields job_counts
-    list_kind e = rw (e, ne_eqb (job_kind fields) rows_kind kind) (given_judged _ _ _ _ _ _ _)
+    pub list_kind : judge_parts fields ≡ judge_list (least_of (job_kind fields)) (job_capacity fields) (job_sizes fields) (halfwords (value_of 7 fields)) (blocks_right fields) (job_steps fields)
+    unfolding judge_parts job_counts
+    list_kind = rw (ne_eqb (job_kind fields) rows_kind kind) (given_judged _ _ _ _ _ _ _)
 
     -- what its list was judged by
-    pub list_accepted : (judge_fields fields).number ≡ 0 → (judge_list (least_of (job_kind fields)) (job_capacity fields) (job_sizes fields) (halfwords (value_of 7 fields)) (blocks_right fields) (job_steps fields)).number ≡ 0
-    unfolding plain
-    list_accepted e = go (is_kind (job_kind fields)) refl
-      where
-        go : (test : Bool) → is_kind (job_kind fields) ≡ test → (judge_list (least_of (job_kind fields)) (job_capacity fields) (job_sizes fields) (halfwords (value_of 7 fields)) (blocks_right fields) (job_steps fields)).number ≡ 0
-        go true is = sym (ap (λ (r : Judgement). r.number) (list_kind is)) ∙ e
-        go false is = absurd (omega (arith, ap (λ (r : Judgement). r.number) (kind_refused is), e))
+    list_accepted : (judge_parts fields).number ≡ 0 → (judge_list (least_of (job_kind fields)) (job_capacity fields) (job_sizes fields) (halfwords (value_of 7 fields)) (blocks_right fields) (job_steps fields)).number ≡ 0
+    list_accepted e = sym (ap (λ (r : Judgement). r.number) list_kind) ∙ e
 
-    pub list_fine : (judge_fields fields).number ≡ 0 → ChainAppliable (job_capacity fields) (job_steps fields) (job_sizes fields)
+    pub list_fine : (judge_parts fields).number ≡ 0 → ChainAppliable (job_capacity fields) (job_steps fields) (job_sizes fields)
     list_fine e = list_appliable _ _ _ _ _ _ (list_accepted e)
 
+    -- by the parts that were read
+    pub parts_fine : (parts : JobParts) → PartsOf fields parts → (judge_parts fields).number ≡ 0 → ChainAppliable parts.capacity (steps_in parts.steps) (words parts.sizes.now)
+    parts_fine parts h e = rw (h.capacity_is, h.steps_are, h.sizes_are) (list_fine e)
+
     -- the blocks of a divided list fit it
-    pub blocks_fine : (judge_fields fields).number ≡ 0 → is_divided fields ≡ true → blocks_fit (block_numbers fields) (length (job_sizes fields)) ≡ true
+    pub blocks_fine : (judge_parts fields).number ≡ 0 → is_divided fields ≡ true → blocks_fit (block_numbers fields) (length (job_sizes fields)) ≡ true
     unfolding blocks_right
     blocks_fine e is = rw is at (list_divided _ _ _ _ _ _ (list_accepted e))
+
+  -- the list mapped by the parts that were read
+  pub parts_applied : (parts : JobParts) → PartsOf fields parts → (scale : ℕ) (images : List ℕ) → ChainApplied parts.capacity (steps_in parts.steps) (words parts.sizes.now) scale images → ChainApplied (job_capacity fields) (job_steps fields) (job_sizes fields) scale images
+  parts_applied parts h scale images applied = rw (h.capacity_is, h.steps_are, h.sizes_are) at applied
+
+  -- 16, or what its parts are judged
+  module _ (asked : Operation) where
+    pub kind_refused : takes asked (job_kind fields) ≡ false → judge_fields asked fields ≡ plain 16
+    unfolding judge_fields
+    kind_refused e = rw e
+
+    pub kind_taken : takes asked (job_kind fields) ≡ true → judge_fields asked fields ≡ judge_parts fields
+    unfolding judge_fields
+    kind_taken e = rw e

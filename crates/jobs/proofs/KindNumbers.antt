@@ -1,27 +1,16 @@
 -- A kind, by its number.
 use mathlib.Core.Path.{◌≡◌, refl}
-use mathlib.Core.Bool.{true}
 use mathlib.Core.Logic.{◌⊎◌, ⊎_elim}
-use Prim.Native.Nat.{ℕ}
 use native.Mathlib.Omega.{arith}
 use Rattle.fields.specs.Grammar.{floor_kind, rows_kind}
 use Rattle.jobs.specs.declared.kind.JobKind.{JobKind}
 use Rattle.jobs.specs.declared.kind.JobKind.TheVariants.{Floor, Cut, Rows}
-use Rattle.jobs.specs.Kinds.{is_kind, kind_number}
+use Rattle.jobs.specs.Kinds.{kind_number}
 
 pub floor_of : (kind : JobKind) → kind_number kind ≡ floor_kind → kind ≡ Floor
 floor_of Floor e = refl
 floor_of Cut e = absurd (omega (arith, e))
 floor_of Rows e = absurd (omega (arith, e))
 
-pub no_floor : (kind : JobKind) → (kind ≡ Cut) ⊎ (kind ≡ Rows) → kind_number kind ≡ floor_kind → ⊥
-no_floor kind is e = ⊎_elim (λ cut. omega (arith, rw cut at e)) (λ rows. omega (arith, rw rows at e)) is
-
 pub no_rows : (kind : JobKind) → (kind ≡ Floor) ⊎ (kind ≡ Cut) → kind_number kind ≡ rows_kind → ⊥
 no_rows kind is e = ⊎_elim (λ floor. omega (arith, rw floor at e)) (λ cut. omega (arith, rw cut at e)) is
-
-pub known : (kind : JobKind) (number : ℕ) → kind_number kind ≡ number → is_kind number ≡ true
-unfolding is_kind
-known Floor number e = rw (← e)
-known Cut number e = rw (← e)
-known Rows number e = rw (← e)

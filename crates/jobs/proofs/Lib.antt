@@ -4,8 +4,7 @@ pub mod Promise
 pub mod Outside
 pub mod KindNumbers
 pub mod Taken
+pub mod Divided
 pub mod Judged
-pub mod Writing
-pub mod Finishing
 pub mod Accepted
 pub mod Answering

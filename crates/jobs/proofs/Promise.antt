@@ -6,6 +6,7 @@ use lib.ListN.{length, length-map}
 use Rattle.functions.specs.Words.{limit, total}
 use Rattle.fields.specs.Parts.{Step}
 use Rattle.chains.specs.Chain.{chain_image, chain_scale, chain_floor, ChainAccepted}
+use Rattle.chains.specs.Apply.{ChainAppliable}
 use Rattle.chains.proofs.Chains.{chain_promise}
 use Rattle.blocks.specs.Block.{divide, block_floor}
 use Rattle.blocks.proofs.Dividing.{whole_within, floors_of_images}
@@ -29,3 +30,7 @@ module _ (c : ℕ) (steps : List Step) (l : 1 ≤ c) (m : c ≤ limit) (a : Chai
         total_is_safe = λ numbers counts sizes e bins fits separate. separate_total c (chain_floor c steps) (floor_safe c steps l m a) numbers 0 counts sizes bins e fits separate;
         cut_holds = cut_holds c steps l m a;
       }
+
+-- of a chain that was judged
+pub promised : (c : ℕ) (steps : List Step) (sizes : List ℕ) → ChainAppliable c steps sizes → ChainPromise c steps
+promised c steps sizes a = chain_is_safe c steps a.positive a.in_limit a.accepted

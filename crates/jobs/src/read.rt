@@ -5,15 +5,15 @@ ghost use Rattle.std.specs.Prelude.{◌≡◌};
 ghost use Rattle.fields.specs.Record.{JobRead};
 ghost use Rattle.jobs.specs.Kinds.{kind_number};
 
-use crate::kind::JobKind;
+use crate::kind::{JobKind, Operation};
 use fields::JobParts;
 use refusals::Refusal;
 
 #[derive(Clone, Copy)]
-pub(crate) struct ReadJob<'a> {
-    pub(crate) bytes: &'a [u8],
-    pub(crate) parts: JobParts<'a>,
-    pub(crate) kind: JobKind,
+pub struct ReadJob<'a> {
+    pub bytes: &'a [u8],
+    pub parts: JobParts<'a>,
+    pub kind: JobKind,
     pub(crate) ghost read: { ∥ JobRead bytes.now parts ∥₁ },
     pub(crate) ghost kind_is: { kind_number kind ≡ parts.kind },
 }
@@ -22,11 +22,11 @@ impl<'a> ReadJob<'a> {
     ghost use Rattle.jobs.specs.Read.{JobTaken};
 
     // The fields of a job, and then its kind: 13 to 15, and then 16.
-    pub(crate) fn read(bytes: &'a [u8]) -> Result<ReadJob<'a>, Refusal>
-        ensures { JobTaken bytes.now result }
+    pub(crate) fn read(operation: Operation, bytes: &'a [u8]) -> Result<ReadJob<'a>, Refusal>
+        ensures { JobTaken operation bytes.now result }
     {
         let parts = fields::read_job(bytes)?;
-        let kind = JobKind::try_from(parts.kind)?;
+        let kind = operation.kind(parts.kind)?;
         Ok(ReadJob { bytes, parts, kind })
     }
 }

@@ -1,133 +1,100 @@
--- What the job operation leaves, as the text needs it: an answer that can be printed, and the text that it gives.
+-- The text for a job by what refuses it, and what an answer tells of a refusal.
 use mathlib.Core.Path.{◌≡◌, refl, ap, sym, ◌∙◌}
-use mathlib.Core.List.{List, ◌++◌}
+use mathlib.Core.Bool.{true, false}
+use mathlib.Core.List.{List}
 use mathlib.Core.Logic.{⊎_elim}
-use Prim.Native.Nat.{ℕ, ◌-◌, ◌≤◌}
+use Prim.Native.Nat.{ℕ, ◌≤◌}
 use native.Mathlib.Nat.{eq-zero-or-pos}
 use native.Mathlib.Omega.{arith}
 use borrow.Author.Tests.{eq-eqb, ne_eqb}
 use lib.ListN.{length, take, drop, length-append}
-use lib.Seq.{take-append_seam}
-use Rattle.tables.specs.Check.{most_entries}
+use lib.Seq.{take_at}
 use Rattle.fields.specs.Parts.{job_kind}
-use Rattle.fields.specs.Grammar.{most_sizes, most_rows, most_blocks, rows_kind}
-use Rattle.chains.specs.Judge.{list_by}
-use Rattle.jobs.specs.Job.{fields_in, Places, places_of, answer_by, images_by, scales_by, job_answer, accepted_answer, refused_answer, job_images, job_count, job_scales, job_block_floors, floors_written, blocks_by, images_after, list_after_job, scales_after, blocks_after}
-use Rattle.jobs.specs.declared.JobAnswer.{JobAnswer}
-use Rattle.jobs.proofs.Accepted.{accepted_kind, accepted_fields, JobAccepted}
-use Rattle.jobs.proofs.Finishing.{rows_bounds, images_count}
-use Rattle.report.specs.Text.{fields_text, fourth_byte, handed_over, hand_over_text}
-use Rattle.report.specs.Answer.{Lent, RowsHeld, BlocksHeld, Printable, refusal_of, answer_text}
+use Rattle.fields.specs.Grammar.{rows_kind}
+use Rattle.chains.specs.Judge.{Judgement, list_by}
+use Rattle.jobs.specs.Kinds.{takes}
+use Rattle.jobs.specs.declared.kind.Operation.{Operation}
+use Rattle.jobs.specs.declared.kind.Operation.TheVariants.{Floors, Cuts}
+use Rattle.jobs.specs.Job.{fields_in, Places, places_of, own_places, judge_job, list_after_job, answer_by, written, written_by}
+use Rattle.jobs.proofs.Accepted.{accepted_kind}
+use Rattle.jobs.proofs.Answering.{list_told, written_pass, answer_pass, answer_stop, number_by}
+use Rattle.report.specs.Text.{accepted_text, row_values, refused_text, fourth_byte, operation_of, handed_over, hand_over_text}
+use Rattle.report.specs.Answer.{Lent, Told}
 
--- the first places of a list that is longer
-first_part : (a b : List ℕ) (n : ℕ) → n ≡ length a → (n ≤ length (a ++ b)) × (take n (a ++ b) ≡ a)
-first_part a b n e = (simp length-append (omega (arith, e)), rw (e, take-append_seam a b) refl)
+-- the operation that is called
+pub asks_cuts : (job : List ℕ) → takes Cuts (fourth_byte job) ≡ true → operation_of job ≡ Cuts
+unfolding operation_of
+asks_cuts job is = rw is
 
-pub record Told (job : List ℕ) (answer : JobAnswer) (images list scales blocks : List ℕ) : Type 0 where
-  pub printable : Printable job answer images list scales blocks
-  pub text_is : hand_over_text job ≡ answer_text job answer images list
+pub asks_floors : (job : List ℕ) → takes Cuts (fourth_byte job) ≡ false → operation_of job ≡ Floors
+unfolding operation_of
+asks_floors job is = rw is
 
-module _ (job images₀ working₀ list₀ scales₀ blocks₀ : List ℕ) (lent : Lent images₀ working₀ list₀ scales₀ blocks₀) (answer : JobAnswer) (so : answer ≡ job_answer job (places_of images₀ working₀ list₀ scales₀ blocks₀)) where
-  abbrev least : Places
-  least = record { images = most_sizes; working = most_entries; list = most_entries - 1; scales = most_rows; blocks = most_blocks }
+-- no refusal of the floor operation has its row printed
+pub row_unprinted : (job : List ℕ) → operation_of job ≡ Floors → (row other : ℕ) → row_values (fourth_byte job) row ≡ row_values (fourth_byte job) other
+unfolding operation_of takes row_values
+row_unprinted job asked row other = rw (ne_eqb (fourth_byte job) rows_kind (λ three. cc (rw three at asked)))
 
-  places : places_of images₀ working₀ list₀ scales₀ blocks₀ ≡ least
-  places = rw (lent.images_places, lent.working_places, lent.list_places, lent.scales_places, lent.blocks_places)
+module _ (asked : Operation) (job images₀ working₀ list₀ own₀ : List ℕ) (lent : Lent asked job images₀ working₀ list₀) (own : length own₀ ≡ own_places asked) where
+  abbrev places : Places
+  places = places_of images₀ working₀ list₀ own₀
 
-  is : answer ≡ job_answer job least
-  is = so ∙ ap (job_answer job) places
+  abbrev r : Judgement
+  r = judge_job asked job places
 
-  refused_is : ((handed_over job).number ≡ 0 → ⊥) → answer ≡ refused_answer (handed_over job)
-  unfolding job_answer answer_by handed_over
-  refused_is some = is ∙ rw (ne_eqb (handed_over job).number 0 some) refl
+  judged : handed_over job ≡ r
+  unfolding handed_over
+  judged = rw (lent.is_asked, lent.images_places, lent.working_places, lent.list_places, own)
 
-  accepted_is : (handed_over job).number ≡ 0 → answer ≡ accepted_answer (fields_in job)
-  unfolding job_answer answer_by handed_over
-  accepted_is none = is ∙ rw (eq-eqb (handed_over job).number 0 none) refl
+  by_refusal : (r.number ≡ 0 → ⊥) → hand_over_text job ≡ refused_text (fourth_byte job) r
+  unfolding hand_over_text
+  by_refusal some = rw (judged, ne_eqb r.number 0 some)
 
-  module _ (images list scales blocks : List ℕ) (images-so : images ≡ images_after job (places_of images₀ working₀ list₀ scales₀ blocks₀) images₀) (list-so : list ≡ list_after_job job (places_of images₀ working₀ list₀ scales₀ blocks₀) list₀) (scales-so : scales ≡ scales_after job (places_of images₀ working₀ list₀ scales₀ blocks₀) scales₀) (blocks-so : blocks ≡ blocks_after job (places_of images₀ working₀ list₀ scales₀ blocks₀) blocks₀) (same-images : length images ≡ length images₀) (same-list : length list ≡ length list₀) (same_blocks : length blocks ≡ length blocks₀) where
-    refused_told : ((handed_over job).number ≡ 0 → ⊥) → Told job answer images list scales blocks
-    unfolding refused_answer list_by list_after_job hand_over_text handed_over answer_text refusal_of
-    refused_told some =
-        let same = refused_is some in
-        let number : answer.number ≡ (handed_over job).number = ap (λ (a : JobAnswer). a.number) same in
-        let none : answer.n ≡ 0 = ap (λ (a : JobAnswer). a.n) same in
-        let parts = first_part (handed_over job).list (drop (length (handed_over job).list) list₀) answer.length (ap (λ (a : JobAnswer). a.length) same) in
-        let held : list ≡ (handed_over job).list ++ drop (length (handed_over job).list) list₀ = list-so ∙ ap (λ (p : Places). list_after_job job p list₀) places in
+  pub by_acceptance : r.number ≡ 0 → hand_over_text job ≡ accepted_text asked (fields_in job)
+  unfolding hand_over_text
+  by_acceptance none = rw (judged, eq-eqb r.number 0 none, lent.is_asked)
+
+  pub fourth_is : r.number ≡ 0 → job_kind (fields_in job) ≡ fourth_byte job
+  unfolding fourth_byte
+  fourth_is none = (accepted_kind asked job places none).kind_is
+
+  -- the answer where the operation accepts the job or refuses it, by the numbers that it tells
+  module _ {A : Type 0} (answer pass stop : A) (so : answer ≡ answer_by r pass stop) where
+    passed : r.number ≡ 0 → answer ≡ pass
+    passed none = so ∙ answer_pass r pass stop none
+
+    stopped : (r.number ≡ 0 → ⊥) → answer ≡ stop
+    stopped some = so ∙ answer_stop r pass stop some
+
+    pub numbered : (number : A → ℕ) → number pass ≡ 0 → number stop ≡ r.number → number answer ≡ r.number
+    numbered number nothing same = ap number so ∙ number_by r pass stop number nothing same
+
+    pub told : (list : List ℕ) (number row step n : A → ℕ) → list ≡ list_after_job asked job places list₀ → length list ≡ length list₀ → (number pass ≡ 0) × (n pass ≡ 0) → (number stop ≡ r.number) × (row_values (fourth_byte job) (row stop) ≡ row_values (fourth_byte job) r.row) × (step stop ≡ r.step) × (n stop ≡ length r.list) → Told job (number answer) (row answer) (step answer) (n answer) list
+    unfolding list_after_job list_by refused_text
+    told list number row step n list_so long nothing same =
+        let is = numbered number nothing.0 same.0 in
         record {
-          printable = record {
-            images_there = omega arith;
-            list_there = rw held parts.0;
-            images_most = omega (arith, lent);
-            list_most = omega (arith, lent);
-            blocks_most = omega (arith, lent);
-            rows_held = λ zero. absurd (some (sym number ∙ zero));
-            blocks_held = λ zero. absurd (some (sym number ∙ zero));
-          };
-          text_is = rw (ne_eqb (handed_over job).number 0 some, held, parts.1, same, ne_eqb (handed_over job).number 0 some) refl;
+          list_there = ⊎_elim
+              (λ none. omega (arith, ap n (passed none), nothing.1))
+              (λ some. omega (arith, ap n (stopped (λ none. omega (arith, some, none))), same.3, ap length list_so, length-append r.list (drop (length r.list) list₀)))
+              (eq-zero-or-pos r.number);
+          list_most = omega (arith, long, lent.list_places);
+          text_refused = λ some.
+              let refused : r.number ≡ 0 → ⊥ = λ none. some (is ∙ none) in
+              let e = stopped refused in
+              by_refusal refused ∙ rw (is, ap (λ (a : A). row_values (fourth_byte job) (row a)) e ∙ same.1, ap step e ∙ same.2, ap n e ∙ same.3, list_told r list₀ list list_so) refl;
         }
 
-    module _ (none : (handed_over job).number ≡ 0) where
-      accepted : JobAccepted job
-      unfolding handed_over
-      accepted = accepted_fields job least none
+    -- as many images as the answer says, which are all that were written
+    pub room : (n : A → ℕ) (values images : List ℕ) → images ≡ written_by r values images₀ → n pass ≡ length values → n stop ≡ 0 → n answer ≤ length images
+    unfolding written
+    room n values images images_so whole nothing =
+        ⊎_elim
+        (λ none. omega (arith, ap n (passed none), whole, ap length images_so, ap length (written_pass r values images₀ none), length-append values (drop (length values) images₀)))
+        (λ some. omega (arith, ap n (stopped (λ none. omega (arith, some, none))), nothing))
+        (eq-zero-or-pos r.number)
 
-      passed_images : images ≡ job_images (fields_in job) ++ drop (job_count (fields_in job)) images₀
-      unfolding images_after images_by handed_over
-      passed_images = images-so ∙ ap (λ (p : Places). images_after job p images₀) places ∙ rw (eq-eqb (handed_over job).number 0 none) refl
-
-      passed_scales : scales ≡ job_scales (fields_in job) ++ drop (length (job_scales (fields_in job))) scales₀
-      unfolding scales_after scales_by handed_over
-      passed_scales = scales-so ∙ ap (λ (p : Places). scales_after job p scales₀) places ∙ rw (eq-eqb (handed_over job).number 0 none) refl
-
-      fourth_is : job_kind (fields_in job) ≡ fourth_byte job
-      unfolding handed_over fourth_byte
-      fourth_is = (accepted_kind job least none).kind_is
-
-      held_rows : fourth_byte job ≡ rows_kind → RowsHeld job images scales
-      unfolding job_images job_scales
-      held_rows kind =
-          let many = fourth_is ∙ kind in
-          let bounds = rows_bounds (fields_in job) accepted.fields_accepted many in
-          record {
-            is_complete = accepted.is_complete;
-            rows_most = bounds.0;
-            coefficients_most = bounds.1;
-            more_images = drop (job_count (fields_in job)) images₀;
-            more_scales = drop (length (job_scales (fields_in job))) scales₀;
-            images_held = passed_images ∙ rw many;
-            scales_held = passed_scales ∙ rw many;
-          }
-
-      held_blocks : BlocksHeld job blocks
-      unfolding blocks_after blocks_by floors_written handed_over
-      held_blocks =
-          record {
-            is_complete = accepted.is_complete;
-            more_floors = drop (length (job_block_floors (fields_in job))) blocks₀;
-            floors_held = blocks-so ∙ ap (λ (p : Places). blocks_after job p blocks₀) places ∙ rw (eq-eqb (handed_over job).number 0 none) refl;
-          }
-
-      accepted_told : Told job answer images list scales blocks
-      unfolding accepted_answer hand_over_text handed_over fields_text answer_text
-      accepted_told =
-          let same = accepted_is none in
-          let passed = eq-eqb (handed_over job).number 0 none in
-          let no_list : answer.length ≡ 0 = ap (λ (a : JobAnswer). a.length) same in
-          let count : answer.n ≡ length (job_images (fields_in job)) = ap (λ (a : JobAnswer). a.n) same ∙ sym (images_count (fields_in job)) in
-          let parts = first_part (job_images (fields_in job)) (drop (job_count (fields_in job)) images₀) answer.n count in
-          record {
-            printable = record {
-              images_there = rw passed_images parts.0;
-              list_there = omega arith;
-              images_most = omega (arith, lent);
-              list_most = omega (arith, lent);
-              blocks_most = omega (arith, lent);
-              rows_held = λ _ kind. held_rows kind;
-              blocks_held = λ _. held_blocks;
-            };
-            text_is = rw (passed, passed_images, parts.1, same, fourth_is) refl;
-          }
-
-    pub told : Told job answer images list scales blocks
-    told = ⊎_elim accepted_told (λ some. refused_told (λ none. omega arith)) (eq-zero-or-pos (handed_over job).number)
+    pub images_written : (n : A → ℕ) (values images : List ℕ) → images ≡ written_by r values images₀ → n pass ≡ length values → r.number ≡ 0 → take (n answer) images ≡ values
+    unfolding written
+    images_written n values images images_so whole none =
+        ap (take (n answer)) (images_so ∙ written_pass r values images₀ none) ∙ take_at values (drop (length values) images₀) (n answer) (sym whole ∙ sym (ap n (passed none)))

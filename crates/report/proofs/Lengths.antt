@@ -14,11 +14,10 @@ use lib.Seq.{take-append_seam, get_or-append-add}
 use Rattle.tables.specs.Check.{most_entries}
 use Rattle.fields.specs.Parts.{Step, Row, coefficient_count}
 use Rattle.fields.specs.Grammar.{most_sizes, most_blocks, rows_kind}
-use Rattle.jobs.specs.Job.{row_images, row_scale, rows_images}
-use Rattle.jobs.specs.declared.JobAnswer.{JobAnswer}
-use Rattle.jobs.proofs.Writing.{row_count}
-use Rattle.report.specs.Text.{most_digits, digits, decimal, values_text, line, floor_word, sum_word, scale_word, images_word, blocks_word, refused_word, list_word, floor_text, cut_text, accepted_text, blocks_text, rows_text, row_values, refused_text, most_text}
-use Rattle.report.specs.Answer.{refusal_of}
+use Rattle.floors.specs.declared.FloorAnswer.{FloorAnswer}
+use Rattle.cuts.specs.Cut.{row_images, row_scale, rows_images}
+use Rattle.cuts.proofs.Writing.{row_count}
+use Rattle.report.specs.Text.{most_digits, digits, decimal, values_text, line, floor_word, sum_word, scale_word, images_word, blocks_word, refused_word, list_word, cut_text, row_text, rows_text, floor_text, blocks_text, row_values, refused_text, most_text}
 
 digits_short : (j k n : ℕ) → n < 10 ^ suc k → length (digits j n) ≤ suc k
 unfolding digits
@@ -64,15 +63,7 @@ list_length : (word values : List ℕ) (n most : ℕ) → length values ≤ most
 list_length word values n most l small =
     omega (arith, line_length word (take n values), values_length 9 (take n values) (λ i. taken n i values (small i)), length-take n values)
 
-floor_length : (kind : ℕ) (answer : JobAnswer) → answer.floor < 2 ^ 64 → answer.sum < 2 ^ 64 → length (floor_text kind answer) ≤ 52
-unfolding floor_text
-floor_length kind answer f s = go (eqb kind 1)
-  where
-    go : (b : Bool) → length (cond b (line floor_word (answer.floor ∷ []) ++ line sum_word (answer.sum ∷ [])) []) ≤ 52
-    go true = omega (arith, length-append (line floor_word (answer.floor ∷ [])) (line sum_word (answer.sum ∷ [])), number_length floor_word _ f, number_length sum_word _ s)
-    go false = omega arith
-
-cut_length : (scale : ℕ) (images : List ℕ) (n most : ℕ) → scale < 2 ^ 64 → length images ≤ most → ((i : ℕ) → get_or images i 0 < 2 ^ 32) → length (cut_text scale (take n images)) ≤ 34 + 11 * most
+pub cut_length : (scale : ℕ) (images : List ℕ) (n most : ℕ) → scale < 2 ^ 64 → length images ≤ most → ((i : ℕ) → get_or images i 0 < 2 ^ 32) → length (cut_text scale (take n images)) ≤ 34 + 11 * most
 unfolding cut_text
 cut_length scale images n most e l small =
     omega (arith, length-append (line scale_word (scale ∷ [])) (line images_word (take n images)), number_length scale_word scale e, list_length images_word images n most l small)
@@ -83,15 +74,18 @@ unfolding blocks_text
 blocks_length true floors more l small = rw (take-append_seam floors more) at (list_length blocks_word (floors ++ more) (length floors) most_blocks l small)
 blocks_length false floors more l small = omega arith
 
-pub accepted_length : (kind : ℕ) (answer : JobAnswer) (images : List ℕ) → answer.floor < 2 ^ 64 → answer.sum < 2 ^ 64 → answer.scale < 2 ^ 64 → length images ≤ most_sizes → ((i : ℕ) → get_or images i 0 < 2 ^ 32) → (divided : Bool) (floors more : List ℕ) → length (floors ++ more) ≤ most_blocks → ((i : ℕ) → get_or (floors ++ more) i 0 < 2 ^ 32) → length (accepted_text kind answer (take answer.n images) ++ blocks_text divided floors) ≤ most_text
-unfolding accepted_text
-accepted_length kind answer images f s e l small divided floors more few low =
+pub floor_length : (answer : FloorAnswer) (images : List ℕ) → answer.floor < 2 ^ 64 → answer.sum < 2 ^ 64 → answer.scale < 2 ^ 64 → length images ≤ most_sizes → ((i : ℕ) → get_or images i 0 < 2 ^ 32) → (divided : Bool) (floors more : List ℕ) → length (floors ++ more) ≤ most_blocks → ((i : ℕ) → get_or (floors ++ more) i 0 < 2 ^ 32) → length (floor_text answer (take answer.n images) ++ blocks_text divided floors) ≤ most_text
+unfolding floor_text
+floor_length answer images f s e l small divided floors more few low =
+    let cut = cut_text answer.scale (take answer.n images) in
     omega (
       arith,
-      length-append (accepted_text kind answer (take answer.n images)) (blocks_text divided floors),
+      length-append (floor_text answer (take answer.n images)) (blocks_text divided floors),
       blocks_length divided floors more few low,
-      length-append (floor_text kind answer) (cut_text answer.scale (take answer.n images)),
-      floor_length kind answer f s,
+      length-append (line floor_word (answer.floor ∷ [])) (line sum_word (answer.sum ∷ []) ++ cut),
+      length-append (line sum_word (answer.sum ∷ [])) cut,
+      number_length floor_word answer.floor f,
+      number_length sum_word answer.sum s,
       cut_length answer.scale images answer.n most_sizes e l small,
     )
 
@@ -122,37 +116,37 @@ behind_small : (a b : List ℕ) (most : ℕ) → ((i : ℕ) → get_or (a ++ b) 
 behind_small a b most small i = rw (get_or-append-add a b i 0) at (small (length a + i))
 
 pub rows_length : (S : List Step) (rows : List Row) (images scales : List ℕ) → ((i : ℕ) → get_or (rows_images S rows ++ images) i 0 < 2 ^ 32) → ((i : ℕ) → get_or (map (row_scale S) rows ++ scales) i 0 < 2 ^ 32) → length (rows_text S rows) ≤ 24 * length rows + 11 * coefficient_count rows
-unfolding rows_text rows_images coefficient_count
+unfolding rows_text row_text rows_images coefficient_count
 rows_length S [] images scales small scaled = omega arith
 rows_length S (r ∷ rows) images scales small scaled =
     let apart : (i : ℕ) → get_or (row_images S r ++ (rows_images S rows ++ images)) i 0 < 2 ^ 32 = λ i. rw (append_assoc (row_images S r) (rows_images S rows) images) at (small i) in
     omega (
       arith,
-      length-append (cut_text (row_scale S r) (row_images S r)) (rows_text S rows),
+      length-append (row_text S r) (rows_text S rows),
       row_length (row_scale S r) (row_images S r) (scaled 0) (first_small (row_images S r) (rows_images S rows ++ images) (2 ^ 32) (omega arith) apart),
       row_count S r,
       rows_length S rows images scales (behind_small (row_images S r) (rows_images S rows ++ images) (2 ^ 32) apart) (λ i. scaled (suc i)),
     )
 
-pub refused_length : (fourth : ℕ) (answer : JobAnswer) (list : List ℕ) → answer.number < 2 ^ 64 → answer.row < 2 ^ 64 → answer.step < 2 ^ 64 → length list ≤ most_entries → ((i : ℕ) → get_or list i 0 < 2 ^ 32) → length (refused_text fourth (refusal_of answer list)) ≤ most_text
-unfolding refused_text refusal_of row_values
-refused_length fourth answer list m r s l small = omega (arith, length-append (line refused_word (answer.number ∷ (row_values fourth answer.row ++ (answer.step ∷ [])))) (cond (eqb answer.number 11) (line list_word (take answer.length list)) []), first (eqb fourth rows_kind), second (eqb answer.number 11))
+pub refused_length : (fourth number row step n : ℕ) (list : List ℕ) → number < 2 ^ 64 → row < 2 ^ 64 → step < 2 ^ 64 → length list ≤ most_entries → ((i : ℕ) → get_or list i 0 < 2 ^ 32) → length (refused_text fourth (record { number = number; row = row; step = step; list = take n list })) ≤ most_text
+unfolding refused_text row_values
+refused_length fourth number row step n list m r s l small = omega (arith, length-append (line refused_word (number ∷ (row_values fourth row ++ (step ∷ [])))) (cond (eqb number 11) (line list_word (take n list)) []), first (eqb fourth rows_kind), second (eqb number 11))
   where
-    three : (i : ℕ) → get_or (answer.number ∷ answer.row ∷ answer.step ∷ []) i 0 < 10 ^ most_digits
+    three : (i : ℕ) → get_or (number ∷ row ∷ step ∷ []) i 0 < 10 ^ most_digits
     three zero = omega arith
     three (suc zero) = omega arith
     three (suc (suc zero)) = omega arith
     three (suc (suc (suc i))) = omega arith
 
-    two : (i : ℕ) → get_or (answer.number ∷ answer.step ∷ []) i 0 < 10 ^ most_digits
+    two : (i : ℕ) → get_or (number ∷ step ∷ []) i 0 < 10 ^ most_digits
     two zero = omega arith
     two (suc zero) = omega arith
     two (suc (suc i)) = omega arith
 
-    first : (b : Bool) → length (line refused_word (answer.number ∷ (cond b (answer.row ∷ []) [] ++ (answer.step ∷ [])))) ≤ 71
-    first true = omega (arith, line_length refused_word (answer.number ∷ answer.row ∷ answer.step ∷ []), values_length 19 (answer.number ∷ answer.row ∷ answer.step ∷ []) three)
-    first false = omega (arith, line_length refused_word (answer.number ∷ answer.step ∷ []), values_length 19 (answer.number ∷ answer.step ∷ []) two)
+    first : (b : Bool) → length (line refused_word (number ∷ (cond b (row ∷ []) [] ++ (step ∷ [])))) ≤ 71
+    first true = omega (arith, line_length refused_word (number ∷ row ∷ step ∷ []), values_length 19 (number ∷ row ∷ step ∷ []) three)
+    first false = omega (arith, line_length refused_word (number ∷ step ∷ []), values_length 19 (number ∷ step ∷ []) two)
 
-    second : (b : Bool) → length (cond b (line list_word (take answer.length list)) []) ≤ 22600
-    second true = omega (arith, list_length list_word list answer.length most_entries l small)
+    second : (b : Bool) → length (cond b (line list_word (take n list)) []) ≤ 22600
+    second true = omega (arith, list_length list_word list n most_entries l small)
     second false = omega arith

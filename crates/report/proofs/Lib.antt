@@ -5,4 +5,6 @@ pub mod Texts
 pub mod RowTexts
 pub mod BlockTexts
 pub mod Answered
+pub mod FloorAnswered
+pub mod CutAnswered
 pub mod Lengths

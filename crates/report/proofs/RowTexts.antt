@@ -7,8 +7,10 @@ use lib.ListN.{length, get_or, take, drop, length-append}
 use lib.Seq.{take_at, drop-drop}
 use Rattle.fields.specs.Parts.{Step, Row, job_steps, job_rows, coefficient_count}
 use Rattle.fields.specs.Record.{no_row}
-use Rattle.jobs.specs.Job.{fields_in, row_images, row_scale, rows_images}
-use Rattle.jobs.proofs.Writing.{row_count, images_at, value_at, counts_next}
+use Rattle.jobs.specs.Job.{fields_in}
+use Rattle.jobs.proofs.Answering.{value_at}
+use Rattle.cuts.specs.Cut.{row_images, row_scale, rows_images}
+use Rattle.cuts.proofs.Writing.{row_count, images_at, counts_next}
 use Rattle.report.specs.Answer.{RowsHeld}
 
 module _ (job images scales : List ℕ) (h : RowsHeld job images scales) where

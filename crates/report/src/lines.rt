@@ -1,27 +1,30 @@
-// The lines of a text: a word, values with one space before each, and the line's end. The kind is read
-// from its byte of the job, as the definition of the text has it.
+// The lines of a text: a word, values with one space before each, and the line's end. The kind is read from the job's
+// fourth byte, which is the kind of every accepted job.
 ghost use Rattle.std.specs.Prelude.{◌≡◌, [], ◌∷◌, ◌++◌, ◌≤◌, length};
 ghost use Rattle.fields.specs.Parts.{job_steps, job_rows};
 ghost use Rattle.fields.specs.Reading.{complete, job_fields};
 ghost use Rattle.fields.specs.Record.{JobRead};
-ghost use Rattle.jobs.specs.Job.{fields_in, is_divided, job_block_floors};
+ghost use Rattle.jobs.specs.Job.{fields_in, is_divided};
+ghost use Rattle.floors.specs.Floor.{job_block_floors};
 ghost use Rattle.report.specs.Text.{
   values_text,
   line,
   refused_word,
-  floor_text,
   cut_text,
-  accepted_text,
-  blocks_text,
   rows_text,
+  floor_text,
+  blocks_text,
   row_values,
   refused_text,
   fourth_byte,
+  hand_over_text,
 };
 ghost use Rattle.report.specs.Put.{Put};
-ghost use Rattle.report.specs.Answer.{RowsHeld, BlocksHeld, Printable, refusal_of, answer_text, TextPut};
+ghost use Rattle.report.specs.Answer.{RowsHeld, BlocksHeld, FloorLeft, CutLeft, TextPut};
 
 use crate::put;
+use cuts::CutAnswer;
+use floors::FloorAnswer;
 use refusals::Refusal;
 
 // The refusal that has a list.
@@ -45,17 +48,6 @@ fn put_list_line(out: &mut [u8], at: usize, word: &[u8], values: &[u32]) -> usiz
     put::put_byte(out, end, b'\n')
 }
 
-// The lines that a cut does not have.
-fn put_floor(out: &mut [u8], kind: u8, answer: jobs::JobAnswer) -> usize
-    ensures { Put out.old 0 (floor_text kind answer) out.new result }
-{
-    if kind == fields::FLOOR_KIND {
-        let next = put_number_line(out, 0, b"floor", answer.floor);
-        return put_number_line(out, next, b"sum", answer.sum);
-    }
-    0
-}
-
 // A cut: its scale and its images.
 fn put_cut(out: &mut [u8], at: usize, scale: u64, images: &[u32]) -> usize
     requires { at ≤ length out.old }
@@ -65,10 +57,12 @@ fn put_cut(out: &mut [u8], at: usize, scale: u64, images: &[u32]) -> usize
     put_list_line(out, next, b"images", images)
 }
 
-fn put_accepted(out: &mut [u8], kind: u8, answer: jobs::JobAnswer, images: &[u32]) -> usize
-    ensures { Put out.old 0 (accepted_text kind answer images.now) out.new result }
+// A floor and its sum, and the lines of a cut.
+fn put_floor(out: &mut [u8], answer: FloorAnswer, images: &[u32]) -> usize
+    ensures { Put out.old 0 (floor_text answer images.now) out.new result }
 {
-    let next = put_floor(out, kind, answer);
+    let behind = put_number_line(out, 0, b"floor", answer.floor);
+    let next = put_number_line(out, behind, b"sum", answer.sum);
     put_cut(out, next, answer.scale, images)
 }
 
@@ -83,17 +77,13 @@ fn accepted_parts(job: &[u8]) -> fields::JobParts<'_>
     parts
 }
 
-// The floors of the blocks of a list that is divided. Only a floor job has blocks.
+// The floors of the blocks of a list that is divided.
 fn put_blocks(out: &mut [u8], at: usize, job: &[u8], blocks: &[u32]) -> usize
     requires { (at ≤ length out.old) × BlocksHeld job.now blocks.now }
     ensures { Put out.old at (blocks_text (is_divided (fields_in job.now))
         (job_block_floors (fields_in job.now))) out.new result }
 {
-    let parts = accepted_parts(job);
-    if parts.kind != fields::FLOOR_KIND {
-        return at;
-    }
-    match parts.blocks {
+    match accepted_parts(job).blocks {
         Some(numbers) => put_list_line(out, at, b"blocks", &blocks[..numbers.len() / 2]),
         None => at,
     }
@@ -130,59 +120,74 @@ fn put_row(out: &mut [u8], at: usize, fourth: u8, row: u64) -> usize
     put::put_value(out, at, row)
 }
 
-fn put_refused_line(out: &mut [u8], fourth: u8, answer: jobs::JobAnswer) -> usize
+fn put_refused_line(out: &mut [u8], fourth: u8, number: u64, row: u64, step: u64) -> usize
     ensures { Put out.old 0 (line refused_word
-        (answer.number ∷ (row_values fourth answer.row ++ (answer.step ∷ [])))) out.new result }
+        (number ∷ (row_values fourth row ++ (step ∷ [])))) out.new result }
 {
     let behind = put::put_bytes(out, 0, b"refused");
-    let first = put::put_value(out, behind, answer.number);
-    let second = put_row(out, first, fourth, answer.row);
-    let end = put::put_value(out, second, answer.step);
+    let first = put::put_value(out, behind, number);
+    let second = put_row(out, first, fourth, row);
+    let end = put::put_value(out, second, step);
     put::put_byte(out, end, b'\n')
 }
 
-fn put_refused(out: &mut [u8], fourth: u8, answer: jobs::JobAnswer, list: &[u32]) -> usize
-    requires { answer.length ≤ length list.now }
-    ensures { Put out.old 0 (refused_text fourth (refusal_of answer list.now))
-        out.new result }
+// A refusal, of either operation.
+fn put_refused(out: &mut [u8], job: &[u8], number: u64, row: u64, step: u64, list: &[u32]) -> usize
+    ensures { Put out.old 0 (refused_text (fourth_byte job.now)
+        (record { number = number; row = row; step = step; list = list.now })) out.new result }
 {
-    let next = put_refused_line(out, fourth, answer);
-    if answer.number != WITH_LIST {
+    let next = put_refused_line(out, fourth_byte(job), number, row, step);
+    if number != WITH_LIST {
         return next;
     }
-    put_list_line(out, next, b"list", &list[..answer.length as usize])
+    put_list_line(out, next, b"list", list)
 }
 
 // The fourth byte of a job, 0 where it is shorter.
-fn fourth_byte(job: &[u8]) -> u8
+pub(crate) fn fourth_byte(job: &[u8]) -> u8
     ensures { result ≡ fourth_byte job.now }
 {
     job.get(3).copied().unwrap_or(0)
 }
 
-// The lines of an answer: the kind is the job's fourth byte, and the images, the list, the scales and
-// the blocks' floors stand in the first places of the buffers.
-pub(crate) fn put_answer(
+// The lines of an answer: the images, the list and the blocks' floors stand in the first places of the buffers.
+pub(crate) fn put_floor_answer(
     out: &mut [u8],
     job: &[u8],
-    answer: jobs::JobAnswer,
+    answer: FloorAnswer,
+    images: &[u32],
+    list: &[u32],
+    blocks: &[u32],
+) -> usize
+    requires { FloorLeft job.now answer images.now list.now blocks.now }
+    ensures { TextPut out.old (hand_over_text job.now) out.new result }
+{
+    if answer.number != 0 {
+        let told = &list[..answer.length as usize];
+        return put_refused(out, job, answer.number, answer.row, answer.step, told);
+    }
+    let next = put_floor(out, answer, &images[..answer.n as usize]);
+    put_blocks(out, next, job, blocks)
+}
+
+// The lines of an answer: the images, the list and the rows' scales stand in the first places of the buffers.
+pub(crate) fn put_cut_answer(
+    out: &mut [u8],
+    job: &[u8],
+    answer: CutAnswer,
     images: &[u32],
     list: &[u32],
     scales: &[u32],
-    blocks: &[u32],
 ) -> usize
-    requires { Printable job.now answer images.now list.now scales.now blocks.now }
-    ensures { TextPut out.old (answer_text job.now answer images.now list.now)
-        out.new result }
+    requires { CutLeft job.now answer images.now list.now scales.now }
+    ensures { TextPut out.old (hand_over_text job.now) out.new result }
 {
-    let fourth = fourth_byte(job);
     if answer.number != 0 {
-        return put_refused(out, fourth, answer, list);
+        let told = &list[..answer.length as usize];
+        return put_refused(out, job, answer.number, answer.row, answer.step, told);
     }
-    if fourth == fields::ROWS_KIND {
+    if fourth_byte(job) == fields::ROWS_KIND {
         return put_rows(out, job, images, scales);
     }
-    let n = answer.n as usize;
-    let next = put_accepted(out, fourth, answer, &images[..n]);
-    put_blocks(out, next, job, blocks)
+    put_cut(out, 0, answer.scale, &images[..answer.n as usize])
 }

@@ -9,10 +9,10 @@ use Rattle.fields.specs.Parts.{Row, job_rows, coefficient_count}
 use Rattle.fields.specs.Record.{no_row, RowFound}
 use Rattle.fields.proofs.Walking.{all_left}
 use Rattle.jobs.specs.Job.{fields_in}
-use Rattle.jobs.proofs.Writing.{row_bytes}
+use Rattle.cuts.proofs.Writing.{row_bytes}
 use Rattle.report.proofs.Texts.{rows_none, rows_next}
 use Rattle.report.proofs.RowTexts.{scale_held, images_there, images_held, images_behind}
-use Rattle.report.proofs.lines.put_rows.Goals.{Start, After-next_row-row}
+use Rattle.report.proofs.lines.put_rows.Goals.{After-next_row-row}
 use Rattle.report.proofs.lines.put_rows.Goals as goal
 
 more : (c : After-next_row-row) → c.loop-scale.scale-index < length (job_rows (fields_in c.args.job.now))

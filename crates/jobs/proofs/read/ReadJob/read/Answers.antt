@@ -1,6 +1,6 @@
 -- `read` meets its contract: the fields, and then the kind.
 use mathlib.Core.Path.{sym, ap, ◌∙◌}
-use Rattle.jobs.specs.Kinds.{is_kind}
+use Rattle.jobs.specs.Kinds.{takes}
 use Rattle.jobs.specs.Job.{judge_reading}
 use Rattle.refusals.proofs.Stopped.{stopped}
 use Rattle.jobs.proofs.Judged.{kind_refused}
@@ -17,4 +17,4 @@ returns-in_err-kind c =
     let read = c.in_ok-parts.ensures in
     let unknown = c.in_err-kind.ensures in
     rw (stopped _ c.from_residual-in_err-kind.ensures.1, unknown.1)
-    (ap judge_reading read.complete_as ∙ kind_refused _ (ap is_kind (sym read.parts_are.kind_is) ∙ unknown.0))
+    (ap (judge_reading c.args.operation) read.complete_as ∙ kind_refused _ c.args.operation (ap (takes c.args.operation) (sym read.parts_are.kind_is) ∙ unknown.0))
