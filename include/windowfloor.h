@@ -161,8 +161,8 @@ struct windowfloor_table_answer windowfloor_table_check(const uint32_t *table, s
  * windowfloor_floor. The arguments stay in their order, but windowfloor_floor has no `scales` and
  * windowfloor_cut no `blocks`. So do the fields of struct windowfloor_job_answer: a floor answer has all of
  * them, its `row` always 0; a cut answer has no `floor`, `sum` and `total`. Called so, they give the numbers,
- * fields and buffers of windowfloor_job, except that 7 does not come from a buffer that is no argument any
- * more. Called with the other's kind, they give 16 where windowfloor_job went on. */
+ * fields and buffers of windowfloor_job of version 4.2.0, except that 7 does not come from a buffer that is no
+ * argument any more. Called with the other's kind, they give 16 where windowfloor_job went on. */
 
 /* The floor of a list: kind 1. Each size stands for as many copies as its count says, and tag 8 divides the
  * sizes into blocks that share no windows; all copies of a size are in its block.
