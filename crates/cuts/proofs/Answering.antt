@@ -3,24 +3,24 @@ use mathlib.Core.Path.{◌≡◌, refl, ap, sym, ◌∙◌}
 use mathlib.Core.List.{List, ◌++◌, map}
 use Prim.Native.Nat.{ℕ, ◌<◌}
 use native.Mathlib.Omega.{arith}
-use lib.ListN.{length, length-map, get_or, take}
+use lib.ListN.{length, length-map, get_or, take, drop}
 use lib.Seq.{take_at}
 use Rattle.refusals.specs.Number.{number_of}
 use Rattle.fields.specs.Parts.{Field, Step, Row, job_kind, job_capacity, job_sizes, job_steps, job_rows}
-use Rattle.fields.specs.Grammar.{rows_kind}
+use Rattle.fields.specs.Grammar.{most_sizes, most_rows, rows_kind}
 use Rattle.fields.specs.Record.{no_row}
 use Rattle.chains.specs.Chain.{chain_image}
-use Rattle.chains.specs.Judge.{place_of, Judgement, StepOvershoots, RefusedAs, list_by}
+use Rattle.chains.specs.Judge.{place_of, Judgement, RefusedAs, list_by}
 use Rattle.chains.specs.declared.Refused.{Refused}
 use Rattle.jobs.specs.Kinds.{cut_kind}
 use Rattle.jobs.specs.declared.kind.Operation.TheVariants.{Cuts}
 use Rattle.jobs.specs.Packing.{ChainPromise}
-use Rattle.jobs.specs.Job.{fields_in, Places, judge_parts, judge_job, written, start_capacity}
+use Rattle.jobs.specs.Job.{fields_in, Places, judge_parts, judge_job, written}
 use Rattle.jobs.proofs.Judged.{row_appliable, rows_accepted, rows_fine, list_fine}
 use Rattle.jobs.proofs.Promise.{promised}
 use Rattle.jobs.proofs.Accepted.{accepted_fields}
-use Rattle.jobs.proofs.Answering.{job_overshoots, list_told, some_refused, written_pass, answer_pass, answer_stop, number_by, value_at}
-use Rattle.cuts.specs.Cut.{row_images, row_scale, one_row, cut_images, cut_scales, accepted_cut, refused_cut, cut_answer, images_after, scales_after, CutHolds, RowHolds, CutsHold}
+use Rattle.jobs.proofs.Answering.{job_overshoots, list_told, some_refused, answer_pass, answer_stop, written_pass, kept, put, value_at}
+use Rattle.cuts.specs.Cut.{row_images, row_scale, one_row, cut_images, cut_scales, accepted_cut, refused_cut, CutFinished, CutHolds, RowHolds, CutsHold, CutAnswered}
 use Rattle.cuts.specs.declared.CutAnswer.{CutAnswer}
 use Rattle.cuts.proofs.Writing.{images_at}
 
@@ -55,37 +55,41 @@ module _ (fields : List Field) (fine : (judge_parts fields).number ≡ 0) (behin
   cuts_hold : CutsHold fields (accepted_cut fields) (cut_images fields ++ behind) (cut_scales fields ++ more)
   cuts_hold = record { cut_holds = one_cut; every_row_holds = every_row }
 
-module _ (job : List ℕ) (lent : Places) where
+-- what the operation leaves
+module _ (job : List ℕ) (lent : Places) (images working list scales : List ℕ) where
+  abbrev fields : List Field
+  fields = fields_in job
+
   abbrev r : Judgement
   r = judge_job Cuts job lent
 
-  -- the answer of a job that is accepted, and what is told of one that is refused
-  pub answer_accepted : (answer : CutAnswer) → r.number ≡ 0 → answer ≡ accepted_cut (fields_in job) → answer ≡ cut_answer job lent
-  unfolding cut_answer
-  answer_accepted answer none is = is ∙ sym (answer_pass r _ _ none)
+  module _ (answer : CutAnswer) (working' list' : List ℕ) (listed : list' ≡ list_by r list) (long : length working' ≡ length working) where
+    pub answered_refused : (e : Refused) → RefusedAs r e → answer ≡ record { number = number_of e.refusal; n = 0; scale = 0; step = place_of e.step; length = e.length; row = place_of e.row } → CutAnswered fields r images working list scales answer images working' list' scales
+    unfolding refused_cut
+    answered_refused e told is =
+        let some = some_refused r e told in
+        let so : answer ≡ refused_cut r = is ∙ rw (told.number_is, told.row_is, told.step_is, told.length_is) refl in
+        record {
+          answer_is = so ∙ sym (answer_stop r (accepted_cut fields) (refused_cut r) some);
+          images_are = kept r e told (cut_images fields) images;
+          list_is = listed;
+          scales_are = kept r e told (cut_scales fields) scales;
+          working_long = long;
+          overshoots = λ eleven. rw (so, list_told r list list' listed) (job_overshoots Cuts job lent (rw so at eleven)).overshoots;
+          holds = λ none. absurd (some (rw so at none));
+        }
 
-  pub answer_refused : (answer : CutAnswer) (e : Refused) → RefusedAs r e → answer ≡ record { number = number_of e.refusal; n = 0; scale = 0; step = place_of e.step; length = e.length; row = place_of e.row } → answer ≡ cut_answer job lent
-  unfolding cut_answer refused_cut
-  answer_refused answer e told is =
-      is ∙ rw (answer_stop r (accepted_cut (fields_in job)) (refused_cut r) (some_refused r e told), ← told.number_is, ← told.row_is, ← told.step_is, ← told.length_is) refl
-
-  -- what the operation promises of its answer
-  module _ (answer : CutAnswer) (is : answer ≡ cut_answer job lent) where
-    answer_number : answer.number ≡ r.number
-    unfolding cut_answer accepted_cut refused_cut
-    answer_number = ap (λ (a : CutAnswer). a.number) is ∙ number_by r (accepted_cut (fields_in job)) (refused_cut r) (λ (a : CutAnswer). a.number) refl refl
-
-    pub overshoots : (list list' : List ℕ) → list' ≡ list_by r list → answer.number ≡ 11 → StepOvershoots (start_capacity (fields_in job) answer.row) (job_steps (fields_in job)) answer.step (take answer.length list')
-    unfolding cut_answer refused_cut
-    overshoots list list' listed eleven =
-        let number = sym answer_number ∙ eleven in
-        let refused : answer ≡ refused_cut r = is ∙ answer_stop r _ _ (λ none. omega (arith, number, none)) in
-        rw (refused, list_told r list list' listed) (job_overshoots Cuts job lent number).overshoots
-
-    pub holds : (images scales images' scales' : List ℕ) → images' ≡ images_after job lent images → scales' ≡ scales_after job lent scales → answer.number ≡ 0 → CutsHold (fields_in job) answer images' scales'
-    unfolding cut_answer images_after scales_after written
-    holds images scales images' scales' imaged scaled nothing =
-        let none = sym answer_number ∙ nothing in
-        let accepted : answer ≡ accepted_cut (fields_in job) = is ∙ answer_pass r _ _ none in
-        rw (accepted, imaged ∙ written_pass r _ images none, scaled ∙ written_pass r _ scales none)
-        (cuts_hold (fields_in job) (accepted_fields Cuts job lent none).parts_accepted _ _)
+    pub answered_finished : (images' scales' : List ℕ) → r.number ≡ 0 → CutFinished fields (take most_sizes images) (take most_rows scales) answer images' scales' → (length images' ≡ length (take most_sizes images)) × (length scales' ≡ length (take most_rows scales)) → CutAnswered fields r images working list scales answer (images' ++ drop most_sizes images) working' list' (scales' ++ drop most_rows scales)
+    unfolding accepted_cut written
+    answered_finished images' scales' none done lengths =
+        let imaged = put r none (cut_images fields) images' images most_sizes lengths.0 done.images_are in
+        let scaled = put r none (cut_scales fields) scales' scales most_rows lengths.1 done.scales_are in
+        record {
+          answer_is = done.answer_is ∙ sym (answer_pass r (accepted_cut fields) (refused_cut r) none);
+          images_are = imaged;
+          list_is = listed;
+          scales_are = scaled;
+          working_long = long;
+          overshoots = λ eleven. absurd (omega (arith, ap (λ (a : CutAnswer). a.number) done.answer_is, eleven));
+          holds = λ _. rw (done.answer_is, imaged ∙ written_pass r (cut_images fields) images none, scaled ∙ written_pass r (cut_scales fields) scales none) (cuts_hold fields (accepted_fields Cuts job lent none).parts_accepted _ _);
+        }

@@ -6,10 +6,9 @@ use Rattle.fields.specs.Parts.{Field, Step, Row, job_kind, job_capacity, job_siz
 use Rattle.fields.specs.Grammar.{rows_kind}
 use Rattle.fields.specs.Record.{no_row}
 use Rattle.chains.specs.Chain.{chain_image, chain_scale}
-use Rattle.chains.specs.Judge.{Judgement}
+use Rattle.chains.specs.Judge.{Judgement, StepOvershoots, list_by}
 use Rattle.jobs.specs.Kinds.{cut_kind}
-use Rattle.jobs.specs.declared.kind.Operation.TheVariants.{Cuts}
-use Rattle.jobs.specs.Job.{fields_in, judge_job, Places, written, answer_by, written_by}
+use Rattle.jobs.specs.Job.{start_capacity, written, answer_by, written_by}
 use Rattle.cuts.specs.declared.CutAnswer.{CutAnswer}
 
 -- the images of a row, and its scale, document 01's E; the images of rows one behind the other
@@ -55,16 +54,6 @@ accepted_cut fields =
 unfoldable pub refused_cut : Judgement → CutAnswer
 refused_cut r = record { number = r.number; n = 0; scale = 0; step = r.step; length = length r.list; row = r.row }
 
--- the whole operation, by the job's bytes and the buffers that it is lent: the answer, and the image buffer and that of scales afterwards
-unfoldable pub cut_answer : List ℕ → Places → CutAnswer
-cut_answer job lent = answer_by (judge_job Cuts job lent) (accepted_cut (fields_in job)) (refused_cut (judge_job Cuts job lent))
-
-unfoldable pub images_after : List ℕ → Places → List ℕ → List ℕ
-images_after job lent images = written_by (judge_job Cuts job lent) (cut_images (fields_in job)) images
-
-unfoldable pub scales_after : List ℕ → Places → List ℕ → List ℕ
-scales_after job lent scales = written_by (judge_job Cuts job lent) (cut_scales (fields_in job)) scales
-
 -- an accepted job finished: the answer, and the buffers of images and of scales
 pub record CutFinished (fields : List Field) (images scales : List ℕ) (answer : CutAnswer) (images' scales' : List ℕ) : Type 0 where
   pub answer_is : answer ≡ accepted_cut fields
@@ -84,3 +73,14 @@ RowHolds rows images scales i = CutHolds (get_or rows i no_row) (drop (coefficie
 pub record CutsHold (fields : List Field) (answer : CutAnswer) (images scales : List ℕ) : Type 0 where
   pub cut_holds : job_kind fields ≡ cut_kind → CutHolds (one_row fields) images answer.scale
   pub every_row_holds : job_kind fields ≡ rows_kind → (i : ℕ) → i < length (job_rows fields) → RowHolds (job_rows fields) images scales i
+
+-- the whole operation, by what judges the job: its answer, and every place of the buffers that it is lent, `images` and so on before and `images'` and so on
+-- afterwards; of the working buffer the length alone
+pub record CutAnswered (fields : List Field) (r : Judgement) (images working list scales : List ℕ) (answer : CutAnswer) (images' working' list' scales' : List ℕ) : Type 0 where
+  pub answer_is : answer ≡ answer_by r (accepted_cut fields) (refused_cut r)
+  pub images_are : images' ≡ written_by r (cut_images fields) images
+  pub list_is : list' ≡ list_by r list
+  pub scales_are : scales' ≡ written_by r (cut_scales fields) scales
+  pub working_long : length working' ≡ length working
+  pub overshoots : answer.number ≡ 11 → StepOvershoots (start_capacity fields answer.row) (job_steps fields) answer.step (take answer.length list')
+  pub holds : answer.number ≡ 0 → CutsHold fields answer images' scales'

@@ -4,13 +4,12 @@
 mod answer;
 mod rows;
 
-ghost use Rattle.std.specs.Prelude.{◌≡◌, length, take};
+ghost use Rattle.std.specs.Prelude.{◌≡◌};
 ghost use Rattle.refusals.specs.Number.{number_of};
-ghost use Rattle.fields.specs.Parts.{job_steps};
-ghost use Rattle.chains.specs.Judge.{place_of, StepOvershoots};
+ghost use Rattle.chains.specs.Judge.{place_of};
 ghost use Rattle.jobs.specs.declared.kind.Operation.TheVariants.{Cuts};
-ghost use Rattle.jobs.specs.Job.{fields_in, places_of, list_after_job, start_capacity};
-ghost use Rattle.cuts.specs.Cut.{cut_answer, images_after, scales_after, CutsHold};
+ghost use Rattle.jobs.specs.Job.{fields_in, places_of, judge_job};
+ghost use Rattle.cuts.specs.Cut.{CutAnswered};
 
 use chains::Refused;
 use jobs::judge::judge_job;
@@ -60,22 +59,10 @@ pub fn windowfloor_cut(
     list: &mut [u32],
     scales: &mut [u32],
 ) -> CutAnswer
-    ensures answer { result ≡ cut_answer job.now
-        (places_of images.old working.old list.old scales.old) }
-    ensures images { images.new ≡ images_after job.now
-        (places_of images.old working.old list.old scales.old)
-        images.old }
-    ensures list { list.new ≡ list_after_job Cuts job.now
-        (places_of images.old working.old list.old scales.old)
-        list.old }
-    ensures scales { scales.new ≡ scales_after job.now
-        (places_of images.old working.old list.old scales.old)
-        scales.old }
-    ensures working { length working.new ≡ length working.old }
-    ensures overshoots { result.number ≡ 11 →
-        StepOvershoots (start_capacity (fields_in job.now) result.row)
-        (job_steps (fields_in job.now)) result.step (take result.length list.new) }
-    ensures holds { result.number ≡ 0 → CutsHold (fields_in job.now) result images.new scales.new }
+    ensures { CutAnswered (fields_in job.now)
+        (judge_job Cuts job.now (places_of images.old working.old list.old scales.old))
+        images.old working.old list.old scales.old result
+        images.new working.new list.new scales.new }
 {
     match judge_job(Operation::Cuts, job, images, working, list, scales) {
         Ok(read) => {

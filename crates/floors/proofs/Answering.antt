@@ -9,7 +9,7 @@ use lib.ListN.{length, get_or, take, drop}
 use Rattle.refusals.specs.Number.{number_of}
 use Rattle.functions.specs.Words.{total}
 use Rattle.fields.specs.Parts.{Field, job_kind, job_capacity, job_sizes, job_counts, block_numbers, job_steps}
-use Rattle.fields.specs.Grammar.{floor_kind, rows_kind}
+use Rattle.fields.specs.Grammar.{most_sizes, most_blocks, floor_kind, rows_kind}
 use Rattle.chains.specs.Judge.{place_of, Judgement, RefusedAs, StepOvershoots, list_by}
 use Rattle.chains.specs.declared.Refused.{Refused}
 use Rattle.blocks.specs.Block.{divide, block_floor}
@@ -21,8 +21,8 @@ use Rattle.jobs.specs.Job.{fields_in, is_divided, Places, judge_job, written, st
 use Rattle.jobs.proofs.Promise.{promised}
 use Rattle.jobs.proofs.Judged.{list_fine, blocks_fine}
 use Rattle.jobs.proofs.Accepted.{accepted_fields}
-use Rattle.jobs.proofs.Answering.{job_overshoots, list_told, some_refused, answer_pass, answer_stop, number_by, written_pass, value_at}
-use Rattle.floors.specs.Floor.{job_floor, job_blocks, job_block_floors, job_total, accepted_floor, refused_floor, floor_answer, blocks_after, FloorAccepted, no_block, FloorsSafe}
+use Rattle.jobs.proofs.Answering.{job_overshoots, list_told, some_refused, answer_pass, answer_stop, written_pass, kept, put, value_at}
+use Rattle.floors.specs.Floor.{floor_images, job_floor, job_blocks, job_block_floors, job_total, accepted_floor, refused_floor, FloorAccepted, FloorFinished, no_block, FloorsSafe, FloorAnswered}
 use Rattle.floors.specs.declared.FloorAnswer.{FloorAnswer}
 use Rattle.floors.proofs.Finishing.{no_rows, divided_blocks}
 
@@ -87,41 +87,48 @@ module _ (job : List ℕ) (lent : Places) (none : (judge_job Floors job lent).nu
       let accepted = accepted_fields Floors job lent none in
       record { accepted = accepted.parts_accepted; is_floor = floor_taken (fields_in job) accepted.is_taken }
 
--- the answer of a job that is accepted, and what is told of one that is refused
-pub answer_accepted : (job : List ℕ) (lent : Places) (answer : FloorAnswer) → (judge_job Floors job lent).number ≡ 0 → answer ≡ accepted_floor (fields_in job) → answer ≡ floor_answer job lent
-unfolding floor_answer
-answer_accepted job lent answer none is = is ∙ sym (answer_pass (judge_job Floors job lent) _ _ none)
-
-pub answer_refused : (job : List ℕ) (lent : Places) (answer : FloorAnswer) (e : Refused) → RefusedAs (judge_job Floors job lent) e → answer ≡ record { number = number_of e.refusal; n = 0; floor = 0; sum = 0; scale = 0; step = place_of e.step; length = e.length; row = 0; total = 0 } → answer ≡ floor_answer job lent
-unfolding floor_answer refused_floor
-answer_refused job lent answer e told is =
-    let r = judge_job Floors job lent in
-    is ∙ rw (answer_stop r (accepted_floor (fields_in job)) (refused_floor r) (some_refused r e told), ← told.number_is, ← told.step_is, ← told.length_is) refl
-
--- what the operation promises of its answer
-module _ (job : List ℕ) (lent : Places) (answer : FloorAnswer) (is : answer ≡ floor_answer job lent) where
-  abbrev r : Judgement
-  r = judge_job Floors job lent
-
+-- what the operation leaves
+module _ (job : List ℕ) (lent : Places) (images working list blocks : List ℕ) where
   abbrev fields : List Field
   fields = fields_in job
 
-  answer_number : answer.number ≡ r.number
-  unfolding floor_answer accepted_floor refused_floor
-  answer_number = ap (λ (b : FloorAnswer). b.number) is ∙ number_by r (accepted_floor fields) (refused_floor r) (λ b. b.number) refl refl
+  abbrev r : Judgement
+  r = judge_job Floors job lent
 
-  pub safe : (blocks blocks' : List ℕ) → blocks' ≡ blocks_after job lent blocks → answer.number ≡ 0 → FloorsSafe fields answer blocks'
-  unfolding floor_answer blocks_after written
-  safe blocks blocks' held none =
-      let pass = sym answer_number ∙ none in
-      rw (is ∙ answer_pass r (accepted_floor fields) (refused_floor r) pass, held ∙ written_pass r (job_block_floors fields) blocks pass)
-      (floors_safe fields (job_accepted job lent pass) (drop (length (job_block_floors fields)) blocks))
-
-  pub overshoots : (list list' : List ℕ) → list' ≡ list_by r list → answer.number ≡ 11 → StepOvershoots (job_capacity fields) (job_steps fields) answer.step (take answer.length list')
-  unfolding floor_answer refused_floor start_capacity
-  overshoots list list' held eleven =
-      let number = sym answer_number ∙ eleven in
-      let over = job_overshoots Floors job lent number in
+  -- 11 is of the job's own capacity
+  overshoots : (list' : List ℕ) → list' ≡ list_by r list → r.number ≡ 11 → StepOvershoots (job_capacity fields) (job_steps fields) r.step (take (length r.list) list')
+  unfolding start_capacity
+  overshoots list' listed eleven =
+      let over = job_overshoots Floors job lent eleven in
       let kind = floor_taken fields over.is_taken in
-      rw (is ∙ answer_stop r (accepted_floor fields) (refused_floor r) (λ none. omega (arith, number, none)), list_told r list list' held)
-      (rw (ne_eqb (job_kind fields) rows_kind (λ many. omega (arith, kind, many))) at over.overshoots)
+      rw (list_told r list list' listed) (rw (ne_eqb (job_kind fields) rows_kind (λ many. omega (arith, kind, many))) at over.overshoots)
+
+  module _ (answer : FloorAnswer) (working' list' : List ℕ) (listed : list' ≡ list_by r list) (long : length working' ≡ length working) where
+    pub answered_refused : (e : Refused) → RefusedAs r e → answer ≡ record { number = number_of e.refusal; n = 0; floor = 0; sum = 0; scale = 0; step = place_of e.step; length = e.length; row = 0; total = 0 } → FloorAnswered fields r images working list blocks answer images working' list' blocks
+    unfolding refused_floor
+    answered_refused e told is =
+        let some = some_refused r e told in
+        let so : answer ≡ refused_floor r = is ∙ rw (told.number_is, told.step_is, told.length_is) refl in
+        record {
+          answer_is = so ∙ sym (answer_stop r (accepted_floor fields) (refused_floor r) some);
+          images_are = kept r e told (floor_images fields) images;
+          list_is = listed;
+          blocks_are = kept r e told (job_block_floors fields) blocks;
+          working_long = long;
+          overshoots = λ eleven. rw so (overshoots list' listed (rw so at eleven));
+          safe = λ none. absurd (some (rw so at none));
+        }
+
+    pub answered_finished : (images' blocks' : List ℕ) → r.number ≡ 0 → FloorFinished fields (take most_sizes images) (take most_blocks blocks) answer images' blocks' → (length images' ≡ length (take most_sizes images)) × (length blocks' ≡ length (take most_blocks blocks)) → FloorAnswered fields r images working list blocks answer (images' ++ drop most_sizes images) working' list' (blocks' ++ drop most_blocks blocks)
+    unfolding accepted_floor written
+    answered_finished images' blocks' none done lengths =
+        let blocked = put r none (job_block_floors fields) blocks' blocks most_blocks lengths.1 done.blocks_are in
+        record {
+          answer_is = done.answer_is ∙ sym (answer_pass r (accepted_floor fields) (refused_floor r) none);
+          images_are = put r none (floor_images fields) images' images most_sizes lengths.0 done.images_are;
+          list_is = listed;
+          blocks_are = blocked;
+          working_long = long;
+          overshoots = λ eleven. absurd (omega (arith, ap (λ (a : FloorAnswer). a.number) done.answer_is, eleven));
+          safe = λ _. rw (done.answer_is, blocked ∙ written_pass r (job_block_floors fields) blocks none) (floors_safe fields (job_accepted job lent none) (drop (length (job_block_floors fields)) blocks));
+        }

@@ -1,6 +1,6 @@
 -- The floor operation, document 01, "Operations and what they refuse", and document 02, requests 4, 6 and 9: the answer to a floor job, what the lent
 -- buffers hold afterwards, and what is promised of both.
-use Rattle.std.specs.Prelude.{cond, ◌≡◌, List, [], map, ℕ, ◌≤◌, ◌<◌, length, get_or}
+use Rattle.std.specs.Prelude.{cond, ◌≡◌, List, [], map, ℕ, ◌≤◌, ◌<◌, length, get_or, take}
 use Rattle.functions.specs.Words.{total, weighted}
 use Rattle.fields.specs.Bytes.{words}
 use Rattle.fields.specs.Parts.{Field, job_kind, job_capacity, job_sizes, job_counts, block_numbers, job_steps}
@@ -9,11 +9,10 @@ use Rattle.fields.specs.Record.{steps_in}
 use Rattle.fields.specs.declared.JobParts.{JobParts}
 use Rattle.chains.specs.Chain.{chain_image, chain_scale, chain_floor}
 use Rattle.chains.specs.Apply.{ChainApplied}
-use Rattle.chains.specs.Judge.{Judgement}
+use Rattle.chains.specs.Judge.{Judgement, StepOvershoots, list_by}
 use Rattle.blocks.specs.Block.{Block, divide, block_floor}
 use Rattle.jobs.specs.Packing.{FloorSafe, TotalSafe}
-use Rattle.jobs.specs.declared.kind.Operation.TheVariants.{Floors}
-use Rattle.jobs.specs.Job.{fields_in, is_divided, judge_parts, judge_job, Places, written, answer_by, written_by}
+use Rattle.jobs.specs.Job.{is_divided, judge_parts, written, answer_by, written_by}
 use Rattle.floors.specs.declared.FloorAnswer.{FloorAnswer}
 
 -- the images of the sizes through all steps, and the lower bound on bins of the whole list
@@ -52,16 +51,6 @@ accepted_floor fields =
 unfoldable pub refused_floor : Judgement → FloorAnswer
 refused_floor r = record { number = r.number; n = 0; floor = 0; sum = 0; scale = 0; step = r.step; length = length r.list; row = 0; total = 0 }
 
--- the whole operation, by the job's bytes and the buffers that it is lent: the answer, and the image buffer and that of block floors afterwards
-unfoldable pub floor_answer : List ℕ → Places → FloorAnswer
-floor_answer job lent = answer_by (judge_job Floors job lent) (accepted_floor (fields_in job)) (refused_floor (judge_job Floors job lent))
-
-unfoldable pub images_after : List ℕ → Places → List ℕ → List ℕ
-images_after job lent images = written_by (judge_job Floors job lent) (floor_images (fields_in job)) images
-
-unfoldable pub blocks_after : List ℕ → Places → List ℕ → List ℕ
-blocks_after job lent blocks = written_by (judge_job Floors job lent) (job_block_floors (fields_in job)) blocks
-
 -- an accepted floor job, and one with its images
 pub record FloorAccepted (fields : List Field) : Type 0 where
   pub accepted : (judge_parts fields).number ≡ 0
@@ -86,3 +75,14 @@ pub record FloorsSafe (fields : List Field) (answer : FloorAnswer) (blocks : Lis
   pub floor_within_total : answer.floor ≤ answer.total
   pub total_is_safe : TotalSafe (job_capacity fields) (block_numbers fields) (job_counts fields) (job_sizes fields) answer.total
   pub every_block_is_safe : (i : ℕ) → i < length (job_blocks fields) → FloorSafe (job_capacity fields) (get_or (job_blocks fields) i no_block).counts (get_or (job_blocks fields) i no_block).sizes (get_or blocks i 0)
+
+-- the whole operation, by what judges the job: its answer, and every place of the buffers that it is lent, `images` and so on before and `images'` and so on
+-- afterwards; of the working buffer the length alone
+pub record FloorAnswered (fields : List Field) (r : Judgement) (images working list blocks : List ℕ) (answer : FloorAnswer) (images' working' list' blocks' : List ℕ) : Type 0 where
+  pub answer_is : answer ≡ answer_by r (accepted_floor fields) (refused_floor r)
+  pub images_are : images' ≡ written_by r (floor_images fields) images
+  pub list_is : list' ≡ list_by r list
+  pub blocks_are : blocks' ≡ written_by r (job_block_floors fields) blocks
+  pub working_long : length working' ≡ length working
+  pub overshoots : answer.number ≡ 11 → StepOvershoots (job_capacity fields) (job_steps fields) answer.step (take answer.length list')
+  pub safe : answer.number ≡ 0 → FloorsSafe fields answer blocks'

@@ -4,13 +4,12 @@
 
 mod answer;
 
-ghost use Rattle.std.specs.Prelude.{◌≡◌, length, take};
+ghost use Rattle.std.specs.Prelude.{◌≡◌};
 ghost use Rattle.refusals.specs.Number.{number_of};
-ghost use Rattle.fields.specs.Parts.{job_capacity, job_steps};
-ghost use Rattle.chains.specs.Judge.{place_of, StepOvershoots};
+ghost use Rattle.chains.specs.Judge.{place_of};
 ghost use Rattle.jobs.specs.declared.kind.Operation.TheVariants.{Floors};
-ghost use Rattle.jobs.specs.Job.{fields_in, places_of, list_after_job};
-ghost use Rattle.floors.specs.Floor.{floor_answer, images_after, blocks_after, FloorsSafe};
+ghost use Rattle.jobs.specs.Job.{fields_in, places_of, judge_job};
+ghost use Rattle.floors.specs.Floor.{FloorAnswered};
 
 use chains::Refused;
 use jobs::judge::judge_job;
@@ -65,22 +64,10 @@ pub fn windowfloor_floor(
     list: &mut [u32],
     blocks: &mut [u32],
 ) -> FloorAnswer
-    ensures answer { result ≡ floor_answer job.now
-        (places_of images.old working.old list.old blocks.old) }
-    ensures images { images.new ≡ images_after job.now
-        (places_of images.old working.old list.old blocks.old)
-        images.old }
-    ensures list { list.new ≡ list_after_job Floors job.now
-        (places_of images.old working.old list.old blocks.old)
-        list.old }
-    ensures blocks { blocks.new ≡ blocks_after job.now
-        (places_of images.old working.old list.old blocks.old)
-        blocks.old }
-    ensures working { length working.new ≡ length working.old }
-    ensures overshoots { result.number ≡ 11 →
-        StepOvershoots (job_capacity (fields_in job.now)) (job_steps (fields_in job.now))
-        result.step (take result.length list.new) }
-    ensures safe { result.number ≡ 0 → FloorsSafe (fields_in job.now) result blocks.new }
+    ensures { FloorAnswered (fields_in job.now)
+        (judge_job Floors job.now (places_of images.old working.old list.old blocks.old))
+        images.old working.old list.old blocks.old result
+        images.new working.new list.new blocks.new }
 {
     match judge_job(Operation::Floors, job, images, working, list, blocks) {
         Ok(read) => {

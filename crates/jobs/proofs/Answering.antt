@@ -169,14 +169,6 @@ module _ (r : Judgement) where
     unfolding answer_by
     answer_stop some = rw (ne_eqb r.number 0 some)
 
-    -- its number
-    pub number_by : (number : A → ℕ) → number pass ≡ 0 → number stop ≡ r.number → number (answer_by r pass stop) ≡ r.number
-    number_by number nothing same =
-        ⊎_elim
-        (λ none. ap number (answer_pass none) ∙ nothing ∙ sym none)
-        (λ some. ap number (answer_stop (λ none. omega (arith, some, none))) ∙ same)
-        (eq-zero-or-pos r.number)
-
 -- a value that was written in its place
 pub value_at : {A : Type 0} (f : A → ℕ) (none : A) (xs : List A) (i : ℕ) (behind : List ℕ) → i < length xs → get_or (map f xs ++ behind) i 0 ≡ f (get_or xs i none)
 value_at f none [] i behind l = absurd (omega arith)

@@ -10,7 +10,7 @@ use Rattle.blocks.specs.Block.{blocks_fit}
 use Rattle.jobs.specs.Kinds.{takes, least_of, rows_fit}
 use Rattle.jobs.specs.declared.kind.Operation.{Operation}
 use Rattle.jobs.specs.declared.kind.Operation.TheVariants.{Floors, Cuts}
-use Rattle.chains.specs.Judge.{Judgement, plain, judge_list, list_by}
+use Rattle.chains.specs.Judge.{Judgement, plain, judge_list}
 use Rattle.jobs.specs.JudgeRows.{judge_rows}
 
 -- the fields of a job
@@ -77,10 +77,6 @@ answer_by r pass stop = cond (eqb r.number 0) pass stop
 
 unfoldable pub written_by : Judgement → List ℕ → List ℕ → List ℕ
 written_by r values buffer = cond (eqb r.number 0) (written values buffer) buffer
-
--- the list buffer after the operation
-unfoldable pub list_after_job : Operation → List ℕ → Places → List ℕ → List ℕ
-list_after_job asked job lent list = list_by (judge_job asked job lent) list
 
 -- the capacity that a job's chain starts from: in rows the right side of the one at a place, counted from 1
 unfoldable pub start_capacity : List Field → ℕ → ℕ

@@ -128,9 +128,9 @@ rows_length S (r ∷ rows) images scales small scaled =
       rows_length S rows images scales (behind_small (row_images S r) (rows_images S rows ++ images) (2 ^ 32) apart) (λ i. scaled (suc i)),
     )
 
-pub refused_length : (fourth number row step n : ℕ) (list : List ℕ) → number < 2 ^ 64 → row < 2 ^ 64 → step < 2 ^ 64 → length list ≤ most_entries → ((i : ℕ) → get_or list i 0 < 2 ^ 32) → length (refused_text fourth (record { number = number; row = row; step = step; list = take n list })) ≤ most_text
+pub refused_length : (fourth number row step : ℕ) (list : List ℕ) → number < 2 ^ 64 → row < 2 ^ 64 → step < 2 ^ 64 → length list ≤ most_entries → ((i : ℕ) → get_or list i 0 < 2 ^ 32) → length (refused_text fourth (record { number = number; row = row; step = step; list = list })) ≤ most_text
 unfolding refused_text row_values
-refused_length fourth number row step n list m r s l small = omega (arith, length-append (line refused_word (number ∷ (row_values fourth row ++ (step ∷ [])))) (cond (eqb number 11) (line list_word (take n list)) []), first (eqb fourth rows_kind), second (eqb number 11))
+refused_length fourth number row step list m r s l small = omega (arith, length-append (line refused_word (number ∷ (row_values fourth row ++ (step ∷ [])))) (cond (eqb number 11) (line list_word list) []), first (eqb fourth rows_kind), second (eqb number 11))
   where
     three : (i : ℕ) → get_or (number ∷ row ∷ step ∷ []) i 0 < 10 ^ most_digits
     three zero = omega arith
@@ -147,6 +147,6 @@ refused_length fourth number row step n list m r s l small = omega (arith, lengt
     first true = omega (arith, line_length refused_word (number ∷ row ∷ step ∷ []), values_length 19 (number ∷ row ∷ step ∷ []) three)
     first false = omega (arith, line_length refused_word (number ∷ step ∷ []), values_length 19 (number ∷ step ∷ []) two)
 
-    second : (b : Bool) → length (cond b (line list_word (take n list)) []) ≤ 22600
-    second true = omega (arith, list_length list_word list n most_entries l small)
+    second : (b : Bool) → length (cond b (line list_word list) []) ≤ 22600
+    second true = omega (arith, line_length list_word list, values_length 9 list (λ i. omega (arith, small i)), l)
     second false = omega arith

@@ -6,8 +6,9 @@ use Prim.Native.Nat.{ℕ, ◌+◌, ◌^◌, ◌≤◌, ◌<◌}
 use native.Mathlib.Numerals.{add-one}
 use native.Mathlib.Omega.{arith}
 use borrow.Author.Tests.{eq-eqb, ne_eqb}
-use lib.ListN.{length, get_or, take}
+use lib.ListN.{length, get_or, take, length-take}
 use lib.Seq.{take-suc}
+use Rattle.tables.specs.Check.{most_entries}
 use Rattle.fields.specs.Parts.{Step, Row, job_steps, job_rows}
 use Rattle.fields.specs.Grammar.{most_sizes, rows_kind}
 use Rattle.fields.specs.Record.{no_row}
@@ -82,11 +83,15 @@ module _ (fourth number row step : ℕ) (list : List ℕ) where
   unfolding refused_text
   refused_two eleven p q = rw (eq-eqb number 11 eleven) (put_then p q)
 
+-- as many numbers of the list buffer as an answer says
+pub refused_told : {job : List ℕ} {number row step n : ℕ} {list : List ℕ} → Told job number row step n list → (number ≡ 0 → ⊥) → (length (take n list) ≤ most_entries) × (hand_over_text job ≡ refused_text (fourth_byte job) (record { number = number; row = row; step = step; list = take n list }))
+refused_told {n = n} {list = list} told some = (omega (arith, length-take n list, told.list_most), told.text_refused some)
+
 -- the whole text, of numbers of 64 bits and lists of numbers of 32 bits: a refusal
-pub refused_put : {old new : List ℕ} {end : ℕ} (job : List ℕ) (number row step n : ℕ) (list : List ℕ) → Told job number row step n list → (number ≡ 0 → ⊥) → number < 2 ^ 64 → row < 2 ^ 64 → step < 2 ^ 64 → ((i : ℕ) → get_or list i 0 < 2 ^ 32) → Put old 0 (refused_text (fourth_byte job) (record { number = number; row = row; step = step; list = take n list })) new end → TextPut old (hand_over_text job) new end
-refused_put job number row step n list told some m r s small put =
-    rw (told.text_refused some)
-    (record { put = put; short = refused_length (fourth_byte job) number row step n list m r s told.list_most small })
+pub refused_put : {old new : List ℕ} {end : ℕ} (job : List ℕ) (number row step : ℕ) (list : List ℕ) → (length list ≤ most_entries) × (hand_over_text job ≡ refused_text (fourth_byte job) (record { number = number; row = row; step = step; list = list })) → number < 2 ^ 64 → row < 2 ^ 64 → step < 2 ^ 64 → ((i : ℕ) → get_or list i 0 < 2 ^ 32) → Put old 0 (refused_text (fourth_byte job) (record { number = number; row = row; step = step; list = list })) new end → TextPut old (hand_over_text job) new end
+refused_put job number row step list told m r s small put =
+    rw told.1
+    (record { put = put; short = refused_length (fourth_byte job) number row step list m r s told.0 small })
 
 -- a floor
 pub floor_answer_put : {old out new : List ℕ} {next end : ℕ} (job : List ℕ) (answer : FloorAnswer) (images list blocks : List ℕ) → FloorLeft job answer images list blocks → answer.number ≡ 0 → answer.floor < 2 ^ 64 → answer.sum < 2 ^ 64 → answer.scale < 2 ^ 64 → ((i : ℕ) → get_or images i 0 < 2 ^ 32) → ((i : ℕ) → get_or blocks i 0 < 2 ^ 32) → Put old 0 (floor_text answer (take answer.n images)) out next → Put out next (blocks_text (is_divided (fields_in job)) (job_block_floors (fields_in job))) new end → TextPut old (hand_over_text job) new end

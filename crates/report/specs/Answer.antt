@@ -1,24 +1,16 @@
 -- What the functions that print an answer ask and leave.
-use Rattle.std.specs.Prelude.{◌≡◌, List, ◌++◌, map, ℕ, ◌-◌, ◌≤◌, length, take}
+use Rattle.std.specs.Prelude.{◌≡◌, List, ◌++◌, map, ℕ, ◌≤◌, length, take}
 use Rattle.tables.specs.Check.{most_entries}
 use Rattle.fields.specs.Parts.{job_kind, job_steps, job_rows, coefficient_count}
 use Rattle.fields.specs.Grammar.{most_sizes, most_rows, most_blocks, floor_kind, rows_kind}
 use Rattle.fields.specs.Reading.{complete, job_fields}
-use Rattle.jobs.specs.declared.kind.Operation.{Operation}
 use Rattle.jobs.specs.Job.{fields_in, is_divided}
 use Rattle.floors.specs.Floor.{job_block_floors}
 use Rattle.floors.specs.declared.FloorAnswer.{FloorAnswer}
 use Rattle.cuts.specs.Cut.{row_scale, rows_images}
 use Rattle.cuts.specs.declared.CutAnswer.{CutAnswer}
 use Rattle.report.specs.Put.{Put}
-use Rattle.report.specs.Text.{cut_text, rows_text, floor_text, blocks_text, refused_text, fourth_byte, operation_of, hand_over_text, most_text}
-
--- the operation is the job's, and the buffers that both have are of the least lengths that 7 lets pass
-pub record Lent (asked : Operation) (job images working list : List ℕ) : Type 0 where
-  pub is_asked : operation_of job ≡ asked
-  pub images_places : length images ≡ most_sizes
-  pub working_places : length working ≡ most_entries
-  pub list_places : length list ≡ most_entries - 1
+use Rattle.report.specs.Text.{cut_text, rows_text, floor_text, blocks_text, refused_text, fourth_byte, hand_over_text, most_text}
 
 -- the buffers hold the images and scales of the job's rows, and something behind them
 pub record RowsHeld (job images scales : List ℕ) : Type 0 where

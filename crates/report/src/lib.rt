@@ -5,47 +5,13 @@ mod lines;
 mod put;
 
 ghost use Rattle.std.specs.Prelude.{◌≡◌, ◌++◌, ◌≤◌, min, length, take, drop};
-ghost use Rattle.jobs.specs.declared.kind.Operation.TheVariants.{Floors, Cuts};
 ghost use Rattle.report.specs.Text.{hand_over_text, most_text};
-ghost use Rattle.report.specs.Answer.{Lent, TextPut};
 
 use jobs::kind::Operation;
 
-// The text of a floor job's answer, into `out` from its start on. It says what a caller of the operation is told, so
-// it is made of the answer that a caller gets.
-fn hand_over_floor(
-    job: &[u8],
-    images: &mut [u32],
-    working: &mut [u64],
-    list: &mut [u32],
-    out: &mut [u8],
-) -> usize
-    requires { Lent Floors job.now images.old working.old list.old }
-    ensures { TextPut out.old (hand_over_text job.now) out.new result }
-{
-    let mut blocks = [0u32; fields::MOST_BLOCKS];
-    let answer = floors::windowfloor_floor(job, images, working, list, &mut blocks);
-    lines::put_floor_answer(out, job, answer, images, list, &blocks)
-}
-
-// The text of a cut job's answer, likewise.
-fn hand_over_cut(
-    job: &[u8],
-    images: &mut [u32],
-    working: &mut [u64],
-    list: &mut [u32],
-    out: &mut [u8],
-) -> usize
-    requires { Lent Cuts job.now images.old working.old list.old }
-    ensures { TextPut out.old (hand_over_text job.now) out.new result }
-{
-    let mut scales = [0u32; fields::MOST_ROWS];
-    let answer = cuts::windowfloor_cut(job, images, working, list, &mut scales);
-    lines::put_cut_answer(out, job, answer, images, list, &scales)
-}
-
 // Puts the text for a job at the start of `out`, as far as it fits, and answers how many bytes. It calls the cut
-// operation if the job's fourth byte is 2 or 3, else the floor operation, also for a job of under four bytes.
+// operation if the job's fourth byte is 2 or 3, else the floor operation, also for a job of under four bytes. The text
+// says what a caller of the operation is told, so it is made of the answer that a caller gets.
 pub fn hand_over(job: &[u8], out: &mut [u8]) -> usize
     ensures count { result ≡ min (length (hand_over_text job.now)) (length out.old) }
     ensures text { out.new ≡ take result (hand_over_text job.now) ++ drop result out.old }
@@ -55,7 +21,11 @@ pub fn hand_over(job: &[u8], out: &mut [u8]) -> usize
     let mut working = [0u64; tables::MOST_ENTRIES];
     let mut list = [0u32; jobs::LIST_PLACES];
     if Operation::Cuts.takes(lines::fourth_byte(job)) {
-        return hand_over_cut(job, &mut images, &mut working, &mut list, out);
+        let mut scales = [0u32; fields::MOST_ROWS];
+        let answer = cuts::windowfloor_cut(job, &mut images, &mut working, &mut list, &mut scales);
+        return lines::put_cut_answer(out, job, answer, &images, &list, &scales);
     }
-    hand_over_floor(job, &mut images, &mut working, &mut list, out)
+    let mut blocks = [0u32; fields::MOST_BLOCKS];
+    let answer = floors::windowfloor_floor(job, &mut images, &mut working, &mut list, &mut blocks);
+    lines::put_floor_answer(out, job, answer, &images, &list, &blocks)
 }

@@ -1,6 +1,7 @@
 // The lines of a text: a word, values with one space before each, and the line's end. The kind is read from the job's
 // fourth byte, which is the kind of every accepted job.
 ghost use Rattle.std.specs.Prelude.{◌≡◌, [], ◌∷◌, ◌++◌, ◌≤◌, length};
+ghost use Rattle.tables.specs.Check.{most_entries};
 ghost use Rattle.fields.specs.Parts.{job_steps, job_rows};
 ghost use Rattle.fields.specs.Reading.{complete, job_fields};
 ghost use Rattle.fields.specs.Record.{JobRead};
@@ -133,8 +134,10 @@ fn put_refused_line(out: &mut [u8], fourth: u8, number: u64, row: u64, step: u64
 
 // A refusal, of either operation.
 fn put_refused(out: &mut [u8], job: &[u8], number: u64, row: u64, step: u64, list: &[u32]) -> usize
-    ensures { Put out.old 0 (refused_text (fourth_byte job.now)
-        (record { number = number; row = row; step = step; list = list.now })) out.new result }
+    requires { (length list.now ≤ most_entries)
+        × (hand_over_text job.now ≡ refused_text (fourth_byte job.now)
+        (record { number = number; row = row; step = step; list = list.now })) }
+    ensures { TextPut out.old (hand_over_text job.now) out.new result }
 {
     let next = put_refused_line(out, fourth_byte(job), number, row, step);
     if number != WITH_LIST {

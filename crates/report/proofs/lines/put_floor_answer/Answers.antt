@@ -1,15 +1,10 @@
 -- `put_floor_answer` meets its contract.
 use Rattle.std.proofs.Common.{arith, rules}
-use Rattle.report.proofs.Texts.{refused_put, floor_answer_put}
+use Rattle.report.proofs.Texts.{refused_told, floor_answer_put}
 use Rattle.report.proofs.lines.put_floor_answer.Goals as goal
 
-pub returns-then-answer-ne0 : goal.returns-then-answer-ne0
-returns-then-answer-ne0 c = refused_put _ _ _ _ _ _ c.requires.told c.if-answer-ne0.true
-    (omega arith)
-    (omega arith)
-    (omega arith)
-    (λ i. search rules)
-    c.put_refused.ensures
+pub put_refused-requires : goal.put_refused-requires
+put_refused-requires c = refused_told c.requires.told c.if-answer-ne0.true
 
 pub returns : goal.returns
 returns c = floor_answer_put _ _ _ _ _ c.requires c.if-answer-ne0.false
