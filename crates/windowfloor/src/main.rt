@@ -1,8 +1,9 @@
 // The hand-over program: reads a job from standard input and prints its floor or its cut.
 #![tactic(auto)]
 
-ghost use Rattle.std.specs.Prelude.{IfSome, IsErrOf, OnOk, take};
+ghost use Rattle.std.specs.Prelude.{suc, IfSome, IsErrOf, OnOk, take};
 ghost use Rattle.std.specs.Io.KnownBytes.{Appends, Keeps};
+ghost use Rattle.fields.specs.Grammar.{most_bytes};
 ghost use Rattle.report.specs.Text.{hand_over_text};
 
 use std::fmt;
@@ -42,7 +43,7 @@ fn print_answer<W: Write>(out: &mut W, job: &[u8]) -> io::Result<()>
 // Reads a job to its end, or one byte more than it may have, and prints the text for it.
 fn hand_over<R: Read, W: Write>(reader: &mut R, out: &mut W) -> Result<(), Failure>
     ensures printed { OnOk result (IfSome (R.remaining reader.old) (λ xs.
-        Appends (W.contents out.old) (W.contents out.new) (hand_over_text (take MOST_READ xs)))) }
+        Appends (W.contents out.old) (W.contents out.new) (hand_over_text (take (suc most_bytes) xs)))) }
     ensures unread { IsErrOf result Failure.Unreadable → Keeps (W.contents out.old) (W.contents out.new) }
 {
     let mut job = [0u8; MOST_READ];
