@@ -1,10 +1,10 @@
-# The library for C, its example, tests and benchmarks. All output goes under target/.
+# The library for C, its examples, tests and benchmarks. All output goes under target/.
 #
-#     make            target/libwindowfloor.a and the example, target/planner
+#     make            target/libwindowfloor.a and the examples, target/planner and target/tables
 #     make install    header, library, file for pkg-config and hand-over program, under PREFIX
 #                     (/usr/local); with DESTDIR, for packagers, in the folder DESTDIR/PREFIX
 #     make uninstall  removes these, with the same PREFIX and DESTDIR
-#     make test       the header as C and C++, the library against a C reference, the example, an
+#     make test       the header as C and C++, the library against a C reference, the examples, an
 #                     installation under target/
 #     make program    the hand-over program against the independent implementation
 #     make releases   the library and the program against the answers of earlier releases
@@ -25,10 +25,12 @@ PREFIX = /usr/local
 LIBRARY = target/libwindowfloor.a
 # The crates with functions for C. Over each stands a static library, NAME_c, that exports them: what it reaches in
 # the crates below is in its archive.
-EXPORTING = functions tables floors cuts sweeps exact
+EXPORTING = functions tables shortest floors cuts sweeps exact
 ARCHIVES = $(EXPORTING:%=target/archives/lib%_c.a)
 # Machine code for any x86-64.
 CPU = x86-64
+EXAMPLES = planner tables
+READING = examples/reading.c examples/reading.h
 COMPARE = tests/c/compare.c tests/c/inputs.c tests/c/reference.c
 SOURCES = $(wildcard examples/*.c tests/c/*.c tests/releases/*.c bench/*.c)
 INSTALLED = include/windowfloor.h lib/libwindowfloor.a lib/pkgconfig/windowfloor.pc bin/windowfloor
@@ -42,7 +44,7 @@ sources = crates.txt $(shell find $(wildcard $(patsubst %,crates/%,$1 $(call nam
 .SECONDEXPANSION:
 .DELETE_ON_ERROR:
 
-all: $(LIBRARY) target/planner
+all: $(LIBRARY) $(EXAMPLES:%=target/%)
 
 target/archives/lib%.a: $$(call sources,$$*)
 	@mkdir -p $(@D)
@@ -75,17 +77,17 @@ $(LIBRARY): $(ARCHIVES) Makefile
 	for member in target/members/*.o; do objcopy --set-section-alignment '.text.*=64' $$member || exit 1; done
 	ar rcs $@ target/members/*.o
 
-target/planner: examples/planner.c include/windowfloor.h $(LIBRARY)
-	$(CC) $(CFLAGS) $< $(LIBRARY) $(LDLIBS) -o $@
+$(EXAMPLES:%=target/%): target/%: examples/%.c $(READING) include/windowfloor.h $(LIBRARY)
+	$(CC) $(CFLAGS) $(filter %.c,$^) $(LIBRARY) $(LDLIBS) -o $@
+
+$(EXAMPLES:%=target/%-sanitized): target/%-sanitized: examples/%.c $(READING) include/windowfloor.h $(LIBRARY)
+	$(CC) $(CFLAGS) $(SANITIZED) $(filter %.c,$^) $(LIBRARY) $(LDLIBS) -o $@
 
 target/compare: $(COMPARE) $(wildcard tests/c/*.h) include/windowfloor.h $(LIBRARY)
 	$(CC) $(CFLAGS) $(COMPARE) $(LIBRARY) $(LDLIBS) -o $@
 
 target/compare-sanitized: $(COMPARE) $(wildcard tests/c/*.h) include/windowfloor.h $(LIBRARY)
 	$(CC) $(CFLAGS) $(SANITIZED) $(COMPARE) $(LIBRARY) $(LDLIBS) -o $@
-
-target/planner-sanitized: examples/planner.c include/windowfloor.h $(LIBRARY)
-	$(CC) $(CFLAGS) $(SANITIZED) $< $(LIBRARY) $(LDLIBS) -o $@
 
 target/refusals: tests/c/refusals.c include/windowfloor.h
 	$(CC) $(CFLAGS) $< -o $@
@@ -100,7 +102,7 @@ header:
 	echo '#include "windowfloor.h"' | $(CC) $(CFLAGS) -fsyntax-only -x c -
 	echo '#include "windowfloor.h"' | $(CXX) $(CXXFLAGS) -fsyntax-only -x c++ -
 
-test: header target/compare target/compare-sanitized target/planner target/planner-sanitized \
+test: header target/compare target/compare-sanitized $(EXAMPLES:%=target/%) $(EXAMPLES:%=target/%-sanitized) \
 		target/refusals target/refusals-cxx target/bin/windowfloor
 	target/refusals >target/refusals.txt || { cat target/refusals.txt; exit 1; }
 	target/refusals-cxx | diff target/refusals.txt -
@@ -109,6 +111,8 @@ test: header target/compare target/compare-sanitized target/planner target/plann
 	target/compare-sanitized 2 5000
 	tests/c/planner.sh target/planner
 	tests/c/planner.sh target/planner-sanitized
+	tests/c/tables.sh target/tables
+	tests/c/tables.sh target/tables-sanitized
 	CC='$(CC)' tests/c/install.sh
 
 target/releases-answers: tests/releases/answers.c tests/c/assignment.h include/windowfloor.h $(LIBRARY)
@@ -116,7 +120,7 @@ target/releases-answers: tests/releases/answers.c tests/c/assignment.h include/w
 
 # The same driver over the C reference.
 target/releases-reference: tests/releases/answers.c tests/c/reference.c $(wildcard tests/c/*.h) include/windowfloor.h
-	$(CC) $(CFLAGS) $(foreach name,image table_check floor cut sweep exact,-Dwindowfloor_$(name)=reference_$(name)) \
+	$(CC) $(CFLAGS) $(foreach name,image table_check shortest floor cut sweep exact,-Dwindowfloor_$(name)=reference_$(name)) \
 		tests/releases/answers.c tests/c/reference.c -o $@
 
 releases: target/releases-answers target/releases-reference target/bin/windowfloor
@@ -133,6 +137,7 @@ reference:
 	python3 -B tests/reference/job_cases.py --check
 	python3 -B tests/reference/sweep_cases.py --check
 	python3 -B tests/reference/exact_cases.py --check
+	python3 -B tests/reference/shortest_cases.py --check
 	python3 -B tests/reference/planner_cases.py
 
 outside: target/bin/windowfloor test program releases reference

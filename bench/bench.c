@@ -53,6 +53,7 @@ static struct short_list {
 } short_lists[SHORT_LISTS];
 static size_t lists;
 
+static uint64_t second[WINDOWFLOOR_MOST_ENTRIES]; /* not compared: free */
 static uint32_t windows[SHORT_LISTS][WINDOWFLOOR_EXACT_WINDOWS]; /* not compared: there may be several */
 
 static struct {
@@ -84,6 +85,17 @@ static void run_table_check(const struct contender *who)
                                       WINDOWFLOOR_JOB_LIST)
             : check_table(who->parts, table, entries, out.working, WINDOWFLOOR_JOB_WORKING, out.list,
                           WINDOWFLOOR_JOB_LIST);
+    memcpy(out.answer, &answer, sizeof answer);
+}
+
+static void run_one_shortest(const struct contender *who)
+{
+    struct windowfloor_shortest_answer answer =
+        who->parts == NULL
+            ? windowfloor_shortest(table, entries, out.working, WINDOWFLOOR_JOB_WORKING, second,
+                                   WINDOWFLOOR_MOST_ENTRIES, out.list, WINDOWFLOOR_JOB_LIST)
+            : run_shortest(who->parts, table, entries, out.working, WINDOWFLOOR_JOB_WORKING, second,
+                           WINDOWFLOOR_MOST_ENTRIES, out.list, WINDOWFLOOR_JOB_LIST);
     memcpy(out.answer, &answer, sizeof answer);
 }
 
@@ -185,6 +197,64 @@ static void prepare_table(uint32_t of_capacity, uint32_t scale)
 {
     entries = (size_t)of_capacity + 1;
     draw_table(scale);
+}
+
+/* Entries that rise from each size to the next, by uneven distances, and so that one size or two are enough to
+ * overshoot. */
+static void prepare_few(uint32_t of_capacity, uint32_t fewest)
+{
+    uint32_t most = 0;
+    entries = (size_t)of_capacity + 1;
+    table[0] = 0;
+    for (uint32_t x = 1; x < of_capacity; x++)
+        table[x] = table[x - 1] + 1 + x * 7919 % 1000;
+    for (uint32_t x = 1; x < of_capacity; x++) {
+        uint32_t total = table[x] + (fewest == 1 ? 0 : table[of_capacity - x]);
+        most = total > most ? total : most;
+    }
+    table[of_capacity] = most - 1;
+}
+
+/* Entries that rise at the first multiples of a width, by 3 behind the first. Lists of k sizes total at most k, and 3
+ * for each time that the capacity has the width: so this many are the fewest that overshoot. */
+static void draw_rises(uint32_t of_capacity, uint32_t width, uint32_t rises, uint32_t fewest)
+{
+    entries = (size_t)of_capacity + 1;
+    for (uint32_t x = 0; x < entries; x++) {
+        uint32_t risen = x / width < rises ? x / width : rises;
+        table[x] = risen == 0 ? 0 : 3 * risen + 1;
+    }
+    table[of_capacity] = 3 * (of_capacity / width) + fewest - 1;
+}
+
+static void prepare_64_rises(uint32_t of_capacity, uint32_t width)
+{
+    draw_rises(of_capacity, width, 64, 109);
+}
+
+static void prepare_all_rise(uint32_t of_capacity, uint32_t fewest)
+{
+    draw_rises(of_capacity, 1, of_capacity, fewest);
+}
+
+/* That of the row before. */
+static void keep_table(uint32_t of_capacity, uint32_t with)
+{
+    (void)of_capacity;
+    (void)with;
+}
+
+/* Whether the list that is shown fits and overshoots. */
+static int list_holds(void)
+{
+    uint64_t total = 0, images = 0;
+    for (uint64_t i = 0; i < out.answer[1]; i++) {
+        if (i >= entries - 1 || out.list[i] < 1 || out.list[i] >= entries)
+            return 0;
+        total += out.list[i];
+        images += table[out.list[i]];
+    }
+    return total < entries && images > table[entries - 1];
 }
 
 static void put(uint64_t number, int bytes)
@@ -485,10 +555,11 @@ struct row {
     double at_most;    /* this many times an earlier row; 0: no such goal */
     int back;          /* that row is so many rows before */
     uint64_t number;   /* that refuses it, or 0 */
+    int plain_once;    /* plain C takes so long that it runs once */
 };
 
 #define IMAGE_ROW(c, with, name) \
-    {"image, " name, prepare_images, c, with, run_images, "ns", 1e9, IMAGES, 0, 0, 0}
+    {"image, " name, prepare_images, c, with, run_images, "ns", 1e9, IMAGES, 0, 0, 0, 0}
 #define IMAGE_ROWS(c, where)                                     \
     IMAGE_ROW(c, 1, "family 1 (threshold)" where),               \
     IMAGE_ROW(c, 2, "family 2 (rounding)" where),                \
@@ -498,24 +569,30 @@ struct row {
     IMAGE_ROW(c, 6, "family 6 (mirrored Letchford-Lodi)" where), \
     IMAGE_ROW(c, 7, "family 7 (Dash-Günlük)" where)
 #define TABLE_ROW(c, scale, what) \
-    {"table check, C = " what, prepare_table, c, scale, run_table_check, "µs", 1e6, 1, 0, 0, 0}
+    {"table check, C = " what, prepare_table, c, scale, run_table_check, "µs", 1e6, 1, 0, 0, 0, 0}
+/* A table that is refused: the table check, and a shortest list. */
+#define SHORTEST_ROWS(prepare, with, what, at_most, plain_once)                                          \
+    {"table check, C = 2,047, " what, prepare, 2047, with, run_table_check, "µs", 1e6, 1, 0, 0,          \
+     WINDOWFLOOR_NOT_DUAL_FEASIBLE, 0},                                                                  \
+    {"shortest list, C = 2,047, " what, keep_table, 2047, with, run_one_shortest, "µs", 1e6, 1, at_most, \
+     1, 0, plain_once}
 #define JOB_ROW(prepare, c, with, what, at_most) \
-    {"job, " what, prepare, c, with, run_one_floor, "µs", 1e6, 1, at_most, 1, 0}
+    {"job, " what, prepare, c, with, run_one_floor, "µs", 1e6, 1, at_most, 1, 0, 0}
 #define CUT_ROW(prepare, c, with, what, at_most) \
-    {"job, " what, prepare, c, with, run_one_cut, "µs", 1e6, 1, at_most, 1, 0}
+    {"job, " what, prepare, c, with, run_one_cut, "µs", 1e6, 1, at_most, 1, 0, 0}
 /* Two rows behind the one without blocks. */
 #define BLOCKS_ROW(prepare, c, with, what, at_most) \
-    {"job, " what, prepare, c, with, run_one_floor, "µs", 1e6, 1, at_most, 2, 0}
+    {"job, " what, prepare, c, with, run_one_floor, "µs", 1e6, 1, at_most, 2, 0, 0}
 #define SHORT_TABLE_ROW(c, with, what, at_most) \
     {"job, " what, prepare_short_table, c, with, run_one_floor, "µs", 1e6, 1, at_most, 1, \
-     WINDOWFLOOR_OTHER_CAPACITY}
+     WINDOWFLOOR_OTHER_CAPACITY, 0}
 #define SWEEP_ROW(c, with, name) \
-    {"sweep, 4,096 p × 2,048 sizes, " name, prepare_sweep, c, with, run_one_sweep, "ms", 1e3, 1, 0, 0, 0}
+    {"sweep, 4,096 p × 2,048 sizes, " name, prepare_sweep, c, with, run_one_sweep, "ms", 1e3, 1, 0, 0, 0, 0}
 #define COUNTED_SWEEP_ROW(c, with, name) \
     {"sweep, 4,096 p × 2,048 sizes with counts, " name, prepare_counted_sweep, c, with, run_one_sweep, \
-     "ms", 1e3, 1, 0, 0, 0}
+     "ms", 1e3, 1, 0, 0, 0, 0}
 #define EXACT_ROW(prepare, c, with, lists, what) \
-    {"exact, " what, prepare, c, with, run_exacts, "µs", 1e6, lists, 0, 0, 0}
+    {"exact, " what, prepare, c, with, run_exacts, "µs", 1e6, lists, 0, 0, 0, 0}
 #define AT_LIMIT ", C = 4 × 10^9"
 
 enum { MILLION = 1000000, SWEPT = 100003 }; /* capacities */
@@ -525,6 +602,13 @@ static const struct row rows[] = {
     TABLE_ROW(255, 255, "255"),
     TABLE_ROW(1023, 1023, "1,023"),
     TABLE_ROW(2047, 2047, "2,047"),
+    SHORTEST_ROWS(prepare_few, 1, "1 size", 1.3, 0),
+    SHORTEST_ROWS(prepare_few, 2, "2 sizes", 1.3, 0),
+    SHORTEST_ROWS(prepare_64_rises, 18, "109 sizes, 64 of use, to 1,152", 6, 1),
+    SHORTEST_ROWS(prepare_64_rises, 1, "109 sizes, 64 of use, to 64", 100, 1),
+    SHORTEST_ROWS(prepare_all_rise, 600, "600 sizes", 100, 1),
+    SHORTEST_ROWS(prepare_all_rise, 1023, "1,023 sizes", 100, 1),
+    SHORTEST_ROWS(prepare_all_rise, 2047, "2,047 sizes", 100, 1),
     JOB_ROW(prepare_family_job, MILLION, 0, "2,048 sizes, no step", 0),
     JOB_ROW(prepare_family_job, MILLION, 1, "2,048 sizes, 1 family step", 0),
     JOB_ROW(prepare_family_job, MILLION, 8, "2,048 sizes, 8 family steps", 0),
@@ -584,24 +668,20 @@ static uint64_t digest(void)
     return sum;
 }
 
-/* All three accept, or refuse by the row's number, and leave the same answers and buffers. (A job's working
- * buffer is free, and windows need only hold their copies.) */
-static void compare(const struct row *row)
+/* Whether what is free holds; it is cleared if it is compared otherwise. (A job's working buffer is free, windows
+ * need only hold their copies, and a shortest list need only fit and overshoot.) */
+static int free_holds(const struct row *row)
 {
-    uint64_t results[CONTENDERS];
-    for (int who = 0; who < CONTENDERS; who++) {
-        memset(&out, 0, sizeof out);
-        memset(windows, 0xff, sizeof windows);
-        row->run(&contenders[who]);
-        if (row->run == run_one_floor || row->run == run_one_cut)
-            memset(out.working, 0, sizeof out.working);
-        results[who] = digest();
-        int held = row->run != run_exacts || all_windows_hold();
-        if (out.answer[0] != row->number || results[who] != results[LIBRARY] || !held) {
-            fprintf(stderr, "bench: %s: %s has another number or differs\n", row->name, contenders[who].name);
-            exit(1);
-        }
+    int held = 1;
+    if (row->run == run_exacts)
+        held = all_windows_hold();
+    if (row->run == run_one_shortest) {
+        held = list_holds();
+        memset(out.list, 0, held ? out.answer[1] * sizeof *out.list : 0);
     }
+    if (row->run == run_one_floor || row->run == run_one_cut || row->run == run_one_shortest)
+        memset(out.working, 0, sizeof out.working);
+    return held;
 }
 
 /* Time of this process alone: other work on the machine counts less. */
@@ -621,9 +701,41 @@ static double seconds(const struct row *row, int who, int calls)
 }
 
 struct samples {
-    int calls, count; /* calls of one sample; samples so far */
-    double seconds[CONTENDERS][ROUNDS * MOST_SAMPLES];
+    int calls, count[CONTENDERS];                      /* calls of one sample; samples so far */
+    double seconds[CONTENDERS][ROUNDS * MOST_SAMPLES]; /* of one call */
 };
+
+static void add_sample(struct samples *samples, int who, double of_one_call)
+{
+    samples->seconds[who][samples->count[who]++] = of_one_call;
+}
+
+/* Where plain C runs once, that is when results are first compared. */
+static int is_due(const struct row *row, int who, const struct samples *samples)
+{
+    return !(row->plain_once && who == PLAIN && samples->count[PLAIN] > 0);
+}
+
+/* All three accept, or refuse by the row's number, and leave the same answers and buffers, but for what is free. */
+static void compare(const struct row *row, struct samples *samples)
+{
+    uint64_t results[CONTENDERS];
+    for (int who = 0; who < CONTENDERS; who++) {
+        if (!is_due(row, who, samples))
+            continue;
+        memset(&out, 0, sizeof out);
+        memset(windows, 0xff, sizeof windows);
+        double taken = seconds(row, who, 1);
+        if (row->plain_once && who == PLAIN)
+            add_sample(samples, who, taken);
+        int held = free_holds(row);
+        results[who] = digest();
+        if (out.answer[0] != row->number || results[who] != results[LIBRARY] || !held) {
+            fprintf(stderr, "bench: %s: %s has another number or differs\n", row->name, contenders[who].name);
+            exit(1);
+        }
+    }
+}
 
 static int calls_of_a_sample(const struct row *row)
 {
@@ -638,11 +750,10 @@ static void measure(const struct row *row, struct samples *samples)
     double end = now() + SECONDS_OF_A_ROW;
     if (samples->calls == 0)
         samples->calls = calls_of_a_sample(row);
-    for (int i = 0; i < LEAST_SAMPLES || (i < MOST_SAMPLES && now() < end); i++) {
+    for (int i = 0; i < LEAST_SAMPLES || (i < MOST_SAMPLES && now() < end); i++)
         for (int who = 0; who < CONTENDERS; who++)
-            samples->seconds[who][samples->count] = seconds(row, who, samples->calls);
-        samples->count++;
-    }
+            if (is_due(row, who, samples))
+                add_sample(samples, who, seconds(row, who, samples->calls) / samples->calls);
 }
 
 static int ascending(const void *a, const void *b)
@@ -655,8 +766,8 @@ static int ascending(const void *a, const void *b)
 static double median(const struct row *row, struct samples *samples, int who)
 {
     double *sorted = samples->seconds[who];
-    qsort(sorted, (size_t)samples->count, sizeof *sorted, ascending);
-    return sorted[samples->count / 2] * row->per_second / (samples->calls * row->inputs);
+    qsort(sorted, (size_t)samples->count[who], sizeof *sorted, ascending);
+    return sorted[samples->count[who] / 2] * row->per_second / row->inputs;
 }
 
 static void print_row(const struct row *row, struct samples *samples)
@@ -710,7 +821,7 @@ int main(void)
     for (int round = 0; round < ROUNDS; round++)
         for (int i = 0; i < ROWS; i++) {
             rows[i].prepare(rows[i].of_capacity, rows[i].with);
-            compare(&rows[i]);
+            compare(&rows[i], &samples[i]);
             measure(&rows[i], &samples[i]);
         }
     print_tables(samples);

@@ -30,18 +30,23 @@ static size_t write_counterexample(const uint32_t *table, size_t capacity, const
     return length;
 }
 
+/* Refusals 6 to 10, or 0. */
+static uint64_t judge_table(const uint32_t *table, size_t entries, size_t working_places, size_t list_places)
+{
+    if (entries < 2 || entries > WINDOWFLOOR_MOST_ENTRIES)
+        return WINDOWFLOOR_BAD_COUNT;
+    if (working_places < entries || list_places < entries - 1)
+        return WINDOWFLOOR_SHORT_BUFFER;
+    return judge_entries(table, entries);
+}
+
 struct windowfloor_table_answer check_table(const struct parts *parts,
                                             const uint32_t *table, size_t entries,
                                             uint64_t *working, size_t working_places,
                                             uint32_t *list, size_t list_places)
 {
     struct windowfloor_table_answer answer = {0, 0};
-    if (entries < 2 || entries > WINDOWFLOOR_MOST_ENTRIES)
-        answer.number = WINDOWFLOOR_BAD_COUNT;
-    else if (working_places < entries || list_places < entries - 1)
-        answer.number = WINDOWFLOOR_SHORT_BUFFER;
-    else
-        answer.number = judge_entries(table, entries);
+    answer.number = judge_table(table, entries, working_places, list_places);
     if (answer.number != 0)
         return answer;
     parts->fill_bests(table, entries - 1, working);
@@ -49,6 +54,27 @@ struct windowfloor_table_answer check_table(const struct parts *parts,
         answer.number = WINDOWFLOOR_NOT_DUAL_FEASIBLE;
         answer.length = write_counterexample(table, entries - 1, working, list);
     }
+    return answer;
+}
+
+/* A shortest list */
+
+struct windowfloor_shortest_answer run_shortest(const struct parts *parts,
+                                                const uint32_t *table, size_t entries,
+                                                uint64_t *working, size_t working_places,
+                                                uint64_t *second, size_t second_places,
+                                                uint32_t *list, size_t list_places)
+{
+    struct windowfloor_shortest_answer answer = {0, 0};
+    size_t places = working_places < second_places ? working_places : second_places;
+    answer.number = judge_table(table, entries, places, list_places);
+    if (answer.number != 0)
+        return answer;
+    parts->fill_bests(table, entries - 1, working);
+    if (working[entries - 1] <= table[entries - 1])
+        answer.number = WINDOWFLOOR_DUAL_FEASIBLE;
+    else
+        answer.length = parts->put_shortest(table, entries - 1, working, second, list);
     return answer;
 }
 

@@ -110,6 +110,9 @@ struct copies {
 
 struct parts {
     void (*fill_bests)(const uint32_t *table, size_t capacity, uint64_t *best);
+    /* the fewest sizes of a table that is not dual-feasible, and a list of so many */
+    size_t (*put_shortest)(const uint32_t *table, size_t capacity, uint64_t *working, uint64_t *second,
+                           uint32_t *list);
     void (*map_family)(uint64_t capacity, uint8_t family, uint64_t p, uint64_t q, uint32_t *list,
                        size_t n);
     /* by a table that an earlier row has had checked; its entries as they lie in the job */
@@ -132,6 +135,12 @@ struct windowfloor_table_answer check_table(const struct parts *parts,
                                             const uint32_t *table, size_t entries,
                                             uint64_t *working, size_t working_places,
                                             uint32_t *list, size_t list_places);
+
+struct windowfloor_shortest_answer run_shortest(const struct parts *parts,
+                                                const uint32_t *table, size_t entries,
+                                                uint64_t *working, size_t working_places,
+                                                uint64_t *second, size_t second_places,
+                                                uint32_t *list, size_t list_places);
 
 struct windowfloor_floor_answer run_floor(const struct parts *parts, const uint8_t *job, size_t bytes,
                                           uint32_t *images, size_t images_places,

@@ -1,5 +1,5 @@
-/* The operations as most would write them: each image from its formula, each best over all sizes, a table
- * decoded for each row, a short list by branch and bound. */
+/* The operations as most would write them: each image from its formula, each best over all sizes, a shortest
+ * list by rows over all sizes, a table decoded for each row, a short list by branch and bound. */
 #include <string.h>
 
 #include "common.h"
@@ -104,6 +104,41 @@ static void fill_bests(const uint32_t *table, size_t capacity, uint64_t *best)
     }
 }
 
+/* Row k: of at most k sizes that fit each capacity, the greatest totals. Row 0 stays 0. */
+static uint64_t totals[WINDOWFLOOR_MOST_ENTRIES][WINDOWFLOOR_MOST_ENTRIES];
+
+static void fill_row(const uint32_t *table, size_t capacity, const uint64_t *fewer, uint64_t *row)
+{
+    for (size_t c = 0; c <= capacity; c++) {
+        uint64_t most = fewer[c];
+        for (size_t y = 1; y <= c; y++)
+            if (table[y] + fewer[c - y] > most)
+                most = table[y] + fewer[c - y];
+        row[c] = most;
+    }
+}
+
+/* All rows are kept, in memory of its own, and the list is read from the last of them on. */
+static size_t put_shortest(const uint32_t *table, size_t capacity, uint64_t *working, uint64_t *second,
+                           uint32_t *list)
+{
+    size_t length = 0, c = capacity;
+    (void)working;
+    (void)second;
+    while (totals[length][capacity] <= table[capacity]) {
+        fill_row(table, capacity, totals[length], totals[length + 1]);
+        length++;
+    }
+    for (size_t k = length; k > 0; k--) {
+        size_t y = 1;
+        while (table[y] + totals[k - 1][c - y] != totals[k][c])
+            y++;
+        list[length - k] = (uint32_t)y;
+        c -= y;
+    }
+    return length;
+}
+
 static void map_family(uint64_t capacity, uint8_t family, uint64_t p, uint64_t q, uint32_t *list,
                        size_t n)
 {
@@ -182,5 +217,5 @@ static uint64_t fill_windows(const struct copies *copies, uint64_t capacity, uin
     return s.fewest;
 }
 
-const struct parts plain_parts = {fill_bests, map_family, map_table, sum_of_images, floor_blocks,
-                                  fill_windows};
+const struct parts plain_parts = {fill_bests, put_shortest, map_family, map_table, sum_of_images,
+                                  floor_blocks, fill_windows};

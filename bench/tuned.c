@@ -1,7 +1,10 @@
 /* The operations tuned: the family is chosen once, a step is prepared once, mirrored families fold
  * y = min(x, C - x), formulas have no branches on data, the table check looks at half of the sums, two at a
  * time, and a table's entries are decoded once: rows behind the first read those they need where they
- * lie. The search for windows takes the largest copies first and leaves out what it can know to fail. */
+ * lie. A shortest list is found by its halves, over sizes of use alone. The search for windows takes the largest
+ * copies first and leaves out what it can know to fail. */
+#include <string.h>
+
 #include "common.h"
 
 /* What a step's formula needs and the size does not change. */
@@ -187,6 +190,111 @@ static void fill_bests(const uint32_t *table, size_t capacity, uint64_t *best)
     }
 }
 
+/* Rows of a shortest list: row k has the greatest totals of at most k sizes that fit each capacity; two rows that
+ * follow one another are kept. */
+struct rows {
+    const uint32_t *table;
+    uint64_t *fewer, *row; /* rows k - 1 and k */
+};
+
+static void first_rows(const struct rows *r, size_t capacity)
+{
+    uint32_t top = 0;
+    for (size_t c = 0; c <= capacity; c++) {
+        top = r->table[c] > top ? r->table[c] : top;
+        r->fewer[c] = 0;
+        r->row[c] = top;
+    }
+}
+
+/* To row k: the least of k sizes is at most capacity / k, and a size is of no use where a smaller one has as great
+ * an image. */
+static void next_row(const struct rows *r, size_t capacity, size_t k)
+{
+    uint32_t top = 0;
+    memcpy(r->fewer, r->row, (capacity + 1) * sizeof *r->row);
+    for (size_t y = 1; y <= capacity / k; y++) {
+        if (r->table[y] <= top)
+            continue;
+        top = r->table[y];
+        for (size_t c = k * y; c <= capacity; c++)
+            r->row[c] = greater(r->row[c], r->fewer[c - y] + top);
+    }
+}
+
+/* Of lists of two rows that fit together: half of the sums, if it is one row, and two at a time. */
+static uint64_t greatest_sum(const uint64_t *first, const uint64_t *rest, size_t capacity)
+{
+    uint64_t most = 0;
+    size_t last = first == rest ? capacity / 2 : capacity, s = 0;
+    for (; s < last; s += 2)
+        most = greater(most, greater(first[s] + rest[capacity - s], first[s + 1] + rest[capacity - s - 1]));
+    return s == last ? greater(most, first[s] + rest[capacity - s]) : most;
+}
+
+/* The capacity for the list of the first row where both have the greatest sum: of several the one nearest to
+ * half. */
+static size_t place_of(uint64_t sum, const uint64_t *first, const uint64_t *rest, size_t capacity)
+{
+    for (size_t s = capacity / 2;; s--) {
+        if (first[s] + rest[capacity - s] == sum)
+            return s;
+        if (first[capacity - s] + rest[s] == sum)
+            return capacity - s;
+    }
+}
+
+static uint32_t greatest_entry(const uint32_t *table, size_t capacity)
+{
+    uint32_t size = 0;
+    for (uint32_t y = 1; y <= capacity; y++)
+        size = table[y] > table[size] ? y : size;
+    return size;
+}
+
+static void put_list(const struct rows *r, size_t capacity, size_t n, uint32_t *list);
+
+/* n sizes of this total: half of them, from one row, and the others, from the other. */
+static void put_halves(const struct rows *r, uint64_t sum, size_t capacity, size_t n, uint32_t *list)
+{
+    size_t first = place_of(sum, n % 2 == 0 ? r->row : r->fewer, r->row, capacity);
+    put_list(r, first, n / 2, list);
+    put_list(r, capacity - first, n - n / 2, list + n / 2);
+}
+
+/* n sizes within the capacity, of the greatest total. */
+static void put_list(const struct rows *r, size_t capacity, size_t n, uint32_t *list)
+{
+    if (n == 1)
+        list[0] = greatest_entry(r->table, capacity);
+    if (n < 2)
+        return;
+    first_rows(r, capacity);
+    for (size_t k = 2; k <= n - n / 2; k++)
+        next_row(r, capacity, k);
+    put_halves(r, greatest_sum(n % 2 == 0 ? r->row : r->fewer, r->row, capacity), capacity, n, list);
+}
+
+/* By two rows: of 2 k - 1 sizes and of 2 k. */
+static size_t put_shortest(const uint32_t *table, size_t capacity, uint64_t *working, uint64_t *second,
+                           uint32_t *list)
+{
+    const struct rows r = {table, working, second};
+    first_rows(&r, capacity);
+    for (size_t k = 1;; next_row(&r, capacity, ++k)) {
+        size_t n = 2 * k - 1;
+        uint64_t sum = greatest_sum(r.fewer, r.row, capacity);
+        if (sum <= table[capacity]) {
+            n = 2 * k;
+            sum = greatest_sum(r.row, r.row, capacity);
+        }
+        if (sum > table[capacity]) {
+            put_halves(&r, sum, capacity, n, list);
+            return n;
+        }
+    }
+}
+
 /* Each image is added once: the sum of all is that of the blocks. */
 static struct sums floor_blocks(const struct counted *list, const uint8_t *blocks, size_t count,
                                 uint64_t scale, uint32_t *floors)
@@ -292,5 +400,5 @@ static uint64_t fill_windows(const struct copies *copies, uint64_t capacity, uin
     return s.most;
 }
 
-const struct parts tuned_parts = {fill_bests, map_family, map_table, sum_of_images, floor_blocks,
-                                  fill_windows};
+const struct parts tuned_parts = {fill_bests, put_shortest, map_family, map_table, sum_of_images,
+                                  floor_blocks, fill_windows};

@@ -13,14 +13,18 @@
  *
  * Exit status: 1 if the library refuses, 2 if the numbers cannot be read or the answer not written.
  */
-#include <ctype.h>
-#include <errno.h>
 #include <inttypes.h>
 #include <stdio.h>
 #include <stdlib.h>
 #include <string.h>
 
+#include "reading.h"
 #include "windowfloor.h"
+
+const char *const program = "planner";
+
+static const char usage[] = "planner CAPACITY SIZE[xCOUNT]... [/ SIZE[xCOUNT]...]..."
+                            " | planner FILE | planner --rows FILE [FAMILY P Q]...";
 
 static const char *const families[] = {
     "no step", "threshold", "rounding", "mirrored quotient", "mirrored Vanderbeck", "Burdett-Johnson",
@@ -67,97 +71,7 @@ static void stop_if_refused(const char *operation, uint64_t number, uint64_t row
     exit(1);
 }
 
-/* Reading numbers: words of digits alone, in a file or as arguments; a size may have an x and a count
- * behind it, and among the sizes a / is a word too. The first word that is wrong ends the program, which
- * tells its place. */
-
-enum { SHOWN = 20 }; /* characters of a wrong word that are shown */
-
-struct digits {
-    size_t length;
-    int too_large; /* for 64 bits */
-    uint64_t value;
-};
-
-struct word {
-    size_t length;
-    int has_x, all_digits;       /* all but one x */
-    struct digits number, count; /* before the x, and behind it */
-    unsigned char start[SHOWN];
-};
-
-struct place {
-    const char *file;    /* NULL: the arguments */
-    unsigned long count; /* of lines or of arguments, from 1 */
-};
-
-static void print_place(const struct place *place)
-{
-    if (place->file == NULL)
-        fprintf(stderr, "planner: argument %lu: ", place->count);
-    else
-        fprintf(stderr, "planner: %s, line %lu: ", place->file, place->count);
-}
-
-static void stop_at(const struct place *place, const char *why)
-{
-    print_place(place);
-    fprintf(stderr, "%s\n", why);
-    exit(2);
-}
-
-static void stop_at_word(const struct place *place, const char *why, const struct word *word)
-{
-    print_place(place);
-    fprintf(stderr, "%s%s", why, word->length > 0 ? ": " : "");
-    for (size_t i = 0; i < word->length && i < SHOWN; i++)
-        fprintf(stderr, isprint(word->start[i]) ? "%c" : "\\x%02x", word->start[i]);
-    fprintf(stderr, "%s\n", word->length > SHOWN ? "..." : "");
-    exit(2);
-}
-
-static void start_word(struct word *word)
-{
-    static const struct digits none = {0, 0, 0};
-    word->length = 0;
-    word->has_x = 0;
-    word->all_digits = 1;
-    word->number = word->count = none;
-}
-
-static void add_digit(struct digits *digits, uint64_t digit)
-{
-    digits->length++;
-    if (digits->value > (UINT64_MAX - digit) / 10)
-        digits->too_large = 1;
-    else
-        digits->value = 10 * digits->value + digit;
-}
-
-static void add_character(struct word *word, unsigned char c)
-{
-    if (word->length < SHOWN)
-        word->start[word->length] = c;
-    word->length++;
-    if (isdigit(c))
-        add_digit(word->has_x ? &word->count : &word->number, (uint64_t)(c - '0'));
-    else if (c == 'x' && !word->has_x)
-        word->has_x = 1;
-    else
-        word->all_digits = 0;
-}
-
-/* Why the word is no number, nor a number with a count where it may have one; NULL if it is. */
-static const char *fault_of(const struct word *word, int may_have_count)
-{
-    if (word->length > 0 && (word->start[0] == '-' || word->start[0] == '+'))
-        return "starts with a sign";
-    if (!word->all_digits || word->number.length == 0)
-        return "not a number";
-    if (word->has_x && (!may_have_count || word->count.length == 0))
-        return "not a number";
-    return word->number.too_large ? "a number of more than 64 bits" : NULL;
-}
+/* Reading: a size may have a count behind it, and among the sizes a / is a word too. */
 
 /* Why it is none of the sizes of the list. A count of 0 is for the library to refuse, like a size of 0. */
 static const char *fault_in_list(const struct word *word, const struct list *list)
@@ -179,12 +93,6 @@ static const char *fault_in_row(const struct word *word, const struct model *mod
     if (!starts_row && model->n == WINDOWFLOOR_MOST_SIZES)
         return "more coefficients than a job can have";
     return word->number.value > UINT32_MAX ? "a number of more than 32 bits" : NULL;
-}
-
-static void stop_if(const char *fault, const struct place *place, const struct word *word)
-{
-    if (fault != NULL)
-        stop_at_word(place, fault, word);
 }
 
 static void add_size(struct list *list, const struct word *word, const struct place *place)
@@ -239,31 +147,6 @@ static void add_to_model(struct model *model, const struct word *word, const str
     }
 }
 
-/* The next word of the file, and the line that it is in; 0 if there is none. */
-static int read_word(FILE *file, struct place *place, struct word *word)
-{
-    int c = getc(file);
-    for (; isspace(c); c = getc(file))
-        place->count += c == '\n';
-    start_word(word);
-    for (; c != EOF && !isspace(c); c = getc(file))
-        add_character(word, (unsigned char)c);
-    if (ferror(file))
-        stop_at(place, strerror(errno));
-    ungetc(c, file); /* a line's end counts when the next word is read */
-    return word->length > 0;
-}
-
-static FILE *open_file(const char *name)
-{
-    FILE *file = fopen(name, "r");
-    if (file == NULL) {
-        fprintf(stderr, "planner: %s: %s\n", name, strerror(errno));
-        exit(2);
-    }
-    return file;
-}
-
 static void read_file(struct list *list, const char *name)
 {
     struct place place = {name, 1};
@@ -287,22 +170,6 @@ static void read_rows(struct model *model, const char *name)
         line_of_row = place.count;
     }
     fclose(file);
-}
-
-static struct word word_of(const char *argument)
-{
-    struct word word;
-    start_word(&word);
-    for (; *argument != '\0'; argument++)
-        add_character(&word, (unsigned char)*argument);
-    return word;
-}
-
-static void stop_with_usage(void)
-{
-    fprintf(stderr, "planner: usage: planner CAPACITY SIZE[xCOUNT]... [/ SIZE[xCOUNT]...]..."
-                    " | planner FILE | planner --rows FILE [FAMILY P Q]...\n");
-    exit(2);
 }
 
 static void read_list(struct list *list, int argc, char **argv)
@@ -334,7 +201,7 @@ static void read_model(struct model *model, int argc, char **argv)
     enum { FIRST_STEP = 3, NUMBERS = 3 };
     if (argc < FIRST_STEP || (argc - FIRST_STEP) % NUMBERS != 0
         || argc - FIRST_STEP > NUMBERS * (int)WINDOWFLOOR_MOST_STEPS)
-        stop_with_usage();
+        stop_with_usage(usage);
     for (int i = FIRST_STEP; i < argc; i += NUMBERS) {
         struct step *step = &model->step[model->steps++];
         step->family = (uint8_t)step_number(argv, i, UINT8_MAX);
@@ -583,11 +450,8 @@ static void print_half(const struct list *list, struct step step)
 
 static void print_block(const struct list *list, size_t first, size_t n)
 {
-    for (size_t i = first; i < first + n; i++) {
-        printf(" %" PRIu32, list->sizes[i]);
-        if (list->counts[i] != 1)
-            printf("x%" PRIu16, list->counts[i]);
-    }
+    for (size_t i = first; i < first + n; i++)
+        print_size(list->sizes[i], list->counts[i]);
 }
 
 /* As they can be read again. */
@@ -721,7 +585,7 @@ int main(int argc, char **argv)
     static struct list list;
     static struct model model;
     if (argc < 2)
-        stop_with_usage();
+        stop_with_usage(usage);
     if (strcmp(argv[1], "--rows") == 0) {
         read_model(&model, argc, argv);
         plan_model(&model);
@@ -729,9 +593,5 @@ int main(int argc, char **argv)
         read_list(&list, argc, argv);
         plan_list(&list);
     }
-    if (fflush(stdout) != 0 || ferror(stdout)) {
-        fprintf(stderr, "planner: the answer cannot be written\n");
-        return 2;
-    }
-    return 0;
+    return end_answer(0);
 }

@@ -20,7 +20,7 @@ extern "C" {
 #endif
 
 /* The version of this header and of the library: CHANGELOG.md says what came with it. */
-#define WINDOWFLOOR_VERSION "5.0.0"
+#define WINDOWFLOOR_VERSION "5.1.0"
 
 /* Limits: unsigned constants. Twice the first of them takes 64 bits. */
 #define WINDOWFLOOR_LIMIT 4000000000u     /* the greatest capacity, parameter, scale and table entry */
@@ -87,9 +87,10 @@ enum {
     WINDOWFLOOR_BAD_ROWS = 21, /* of kind 3: none, too many, or too many coefficients in all */
     WINDOWFLOOR_COUNT_0 = 22,
     WINDOWFLOOR_BAD_BLOCKS = 23,
-    WINDOWFLOOR_TOO_MANY_COPIES = 24
+    WINDOWFLOOR_TOO_MANY_COPIES = 24,
+    WINDOWFLOOR_DUAL_FEASIBLE = 25 /* so no list shows otherwise */
 };
-#define WINDOWFLOOR_LAST_REFUSAL 24u /* the greatest of them */
+#define WINDOWFLOOR_LAST_REFUSAL 25u /* the greatest of them */
 
 /* A number of refusal in words, for messages; defined for every number. */
 static inline const char *windowfloor_refusal_text(uint64_t number)
@@ -119,7 +120,8 @@ static inline const char *windowfloor_refusal_text(uint64_t number)
         "a job of rows has no row, too many rows, or too many coefficients",
         "a count is 0",
         "a block has no sizes, there are too many blocks, or they do not add up to the sizes",
-        "the list has more than 10 copies in all"
+        "the list has more than 10 copies in all",
+        "the table is dual-feasible: no list that fits overshoots"
     };
     return number < sizeof texts / sizeof *texts ? texts[number] : "unknown number of refusal";
 }
@@ -147,6 +149,24 @@ struct windowfloor_table_answer {
 
 struct windowfloor_table_answer windowfloor_table_check(const uint32_t *table, size_t entries,
                                                         uint64_t *working, size_t working_places,
+                                                        uint32_t *list, size_t list_places);
+
+/* A shortest list that shows that a table is not dual-feasible: of all lists of sizes that total at most C and
+ * whose images total more than the last entry, one with the fewest sizes. The list of the table check may
+ * have hundreds of sizes where a few are enough. `working` and `second` each have at least `entries` places,
+ * `list` at least C.
+ * Refusals, in order: 6, 7, 8, 9, 10, 25. Refusals 6 to 10 write nothing. 25, the table is dual-feasible, comes
+ * for just the tables that the table check accepts, and leaves `list` as it was. Accepted: the first `length`
+ * places of `list` hold the sizes, none of them 0. There may be several shortest lists; which of them is
+ * shown may change from release to release. After acceptance and 25 `working` and `second` may hold anything. */
+struct windowfloor_shortest_answer {
+    uint64_t number;
+    uint64_t length; /* the fewest sizes, at least 1 and at most C; 0 on a refusal */
+};
+
+struct windowfloor_shortest_answer windowfloor_shortest(const uint32_t *table, size_t entries,
+                                                        uint64_t *working, size_t working_places,
+                                                        uint64_t *second, size_t second_places,
                                                         uint32_t *list, size_t list_places);
 
 /* A job: sizes taken through its steps. Its kind tells which operation takes it: windowfloor_floor kind 1,

@@ -1,12 +1,15 @@
 /* Compares the library with the reference on random inputs, on the largest, on jobs with fields of many
- * lengths and with counts and blocks in many places, and on exact inputs with every choice of refusals: every
- * field of the answers, every place of the buffers, and the places before and behind them. Of the windows of
- * copies, which are free, it looks whether they fit; and no floor of the same list may be above their number.
+ * lengths and with counts and blocks in many places, and on exact inputs and tables for a shortest list with
+ * every choice of refusals: every field of the answers, every place of the buffers, and the places before and
+ * behind them. Of the windows of copies, which are free, it looks whether they fit; and no floor of the same
+ * list may be above their number. Of a shortest list, which is free too, it looks whether it fits and
+ * overshoots; and the table check has to say of the table what goes with the answer, with no shorter list.
  *
  *     compare [SEED [ROUNDS]]
  *
- * A round is 12 images, 6 tables, 9 jobs, 3 sweeps and 3 exact inputs, with a sweep and a job of the list
- * of each that is accepted. A job goes to the operation that its fourth byte tells, one in three to both. */
+ * A round is 12 images, 6 tables, 3 tables for a shortest list, 9 jobs, 3 sweeps and 3 exact inputs, with a
+ * sweep and a job of the list of each that is accepted. A job goes to the operation that its fourth byte tells,
+ * one in three to both. */
 #define _DEFAULT_SOURCE /* for MAP_ANONYMOUS */
 
 #include <stdio.h>
@@ -16,6 +19,7 @@
 
 #include "assignment.h"
 #include "inputs.h"
+#include "overshooting.h"
 #include "reference.h"
 
 enum { DEFAULT_SEED = 1, DEFAULT_ROUNDS = 50000 };
@@ -28,24 +32,26 @@ enum { MOST_PRINTED = 16384 }; /* bytes of an input: all of a sweep */
  * for each kind. Refusals for a field of tag 7 or 8 are counted for each kind. Jobs with counts are counted
  * once more, and so is what has a count of 0; and jobs with blocks, and with wrong ones. For 22, and for 6
  * where there are not as many counts as sizes, what the same input would give with ones is counted; for 23,
- * what the job would give without its tag 8. */
+ * what the job would give without its tag 8; for 7 of a shortest list, what the table would give with buffers
+ * of the least places. */
 enum tally {
-    IMAGE, TABLE, FLOOR_JOB, CUT_JOB, ROWS_JOB, SWEEP, EXACT, OPERATIONS,
+    IMAGE, TABLE, SHORTEST, FLOOR_JOB, CUT_JOB, ROWS_JOB, SWEEP, EXACT, OPERATIONS,
     FLOOR_TO_CUT = OPERATIONS, NO_KIND_TO_CUT, CUT_TO_FLOOR, ROWS_TO_FLOOR,
     ROW_1, LATER_ROW, BEHIND_18, LAST_BEHIND_18 = BEHIND_18 + 2,
     AT_TAG_7, LAST_AT_TAG_7 = AT_TAG_7 + 3, AT_TAG_8, LAST_AT_TAG_8 = AT_TAG_8 + 3,
     COUNTED_JOB, COUNT_0_IN_JOB, COUNT_0_IN_SWEEP, COUNT_0_IN_EXACT, BEHIND_22_OF_JOB, BEHIND_22_OF_SWEEP,
     BEHIND_22_OF_EXACT, FEWER_COUNTS, MORE_COUNTS, FEWER_COUNTS_OF_EXACT, MORE_COUNTS_OF_EXACT,
-    JOB_IN_BLOCKS, WRONG_BLOCKS, BEHIND_23, TALLIES
+    JOB_IN_BLOCKS, WRONG_BLOCKS, BEHIND_23, BEHIND_7_OF_SHORTEST, TALLIES
 };
 
 static const char *const names[TALLIES] = {
-    "image", "table check", "floor", "cut", "cut of rows", "sweep", "exact",
+    "image", "table check", "shortest list", "floor", "cut", "cut of rows", "sweep", "exact",
     "  floor, to cut", "  no kind, to cut", "  cut, to floor", "  rows, to floor",
     "  in row 1", "  later row",
     "  floor", "  cut", "  rows", "  floor", "  cut", "  rows", "  no kind",
     "  floor", "  cut", "  rows", "  no kind", "  all", "  job", "  sweep", "  exact",
     "  job", "  sweep", "  exact", "  fewer", "  more", "  fewer", "  more", "  all", "  wrong", "  job",
+    "  shortest list",
 };
 
 /* Accepted jobs: those of several rows by what the steps make of the right sides. */
@@ -113,6 +119,40 @@ static const char *const buffer_names[BUFFERS] = {"images", "working", "list", "
 enum bad_rows { NO_ROW, MANY_ROWS, MANY_COEFFICIENTS, BAD_ROWS };
 
 static const char *const bad_rows_names[BAD_ROWS] = {"no row", "over 64", "over 2,048 coefficients"};
+
+/* Shortest lists that are shown, by length: these are due. */
+enum { TOLD_LENGTHS = 18 };
+
+static const char *const length_names[TOLD_LENGTHS] = {
+    "1", "2", "3", "4", "5", "6", "7", "8", "9", "15", "16", "17", "31", "32", "33", "63", "64", "65",
+};
+static const uint64_t told_lengths[TOLD_LENGTHS] = {
+    1, 2, 3, 4, 5, 6, 7, 8, 9, 15, 16, 17, 31, 32, 33, 63, 64, 65,
+};
+
+/* The same by sort, beside the list of the table check, and by what the sizes and images total: one can be of
+ * several sorts. As long as the capacity, from 3 on, is a list of ones alone. */
+enum shortest_sort {
+    ODD_LENGTH, EVEN_LENGTH, ONES_OF_CAPACITY, ONES_OF_2047, AS_LONG_AS_CHECK, SHORTER, A_TENTH, OTHER_SIZES,
+    ONE_SIZE_REPEATED, CAPACITY_LEFT, NO_CAPACITY_LEFT, ONE_OVER_LAST, IMAGES_OVER_32_BITS, SHORTEST_SORTS
+};
+
+static const char *const shortest_sort_names[SHORTEST_SORTS] = {
+    "odd", "even", "ones alone", "2,047 ones", "as long as the check's", "shorter", "by ten times",
+    "several sizes", "one repeated", "capacity left", "none left", "one over the last", "images over 32 bits",
+};
+
+/* Buffers of a shortest list: which one alone is too short, and how many places those of an accepted one have. */
+enum shortest_buffer { FIRST_WORKING, SECOND_WORKING, SHOWN_LIST, SHORTEST_BUFFERS };
+enum extent { LEAST, ONE_MORE, A_FEW_MORE, MANY_MORE, EXTENTS };
+
+static const char *const shortest_buffer_names[SHORTEST_BUFFERS] = {"  working", "  second ", "  list   "};
+static const char *const extent_names[EXTENTS] = {"least", "1 more", "up to 20 more", "over 100 more"};
+
+/* Tables refused with 10: whether, but for the limit, they are dual-feasible. */
+enum behind_10 { OVERSHOT_BEHIND_10, FEASIBLE_BEHIND_10, BEHIND_10 };
+
+static const char *const behind_10_names[BEHIND_10] = {"overshot", "dual-feasible"};
 
 /* Accepted exact inputs: one can be of several sorts. First fit puts each copy into the first window that has
  * room; decreasing, it takes the larger copies first. */
@@ -187,7 +227,7 @@ enum bounded {
     CAPACITY_OF_IMAGE, CAPACITY_OF_LIST, RIGHT_SIDE, CAPACITY_OF_SWEEP, CAPACITY_OF_EXACT,
     P_OF_IMAGE, Q_OF_IMAGE, SCALE_OF_IMAGE, P_OF_STEP_1, Q_OF_STEP_1, SCALE_OF_STEP_1,
     P_OF_LATER_STEP, Q_OF_LATER_STEP, SCALE_OF_LATER_STEP, P_OF_SWEEP,
-    ENTRY_OF_TABLE, ENTRY_OF_STEP_1, ENTRY_OF_LATER_STEP, BOUNDED
+    ENTRY_OF_TABLE, ENTRY_OF_SHORTEST, ENTRY_OF_STEP_1, ENTRY_OF_LATER_STEP, BOUNDED
 };
 enum border { ONE_UNDER_LIMIT, AT_LIMIT, ONE_OVER_LIMIT, LAST_OF_32_BITS, BORDERS };
 
@@ -215,6 +255,7 @@ static const struct {
     [SCALE_OF_LATER_STEP] = {"  scale of a later step  ", {0, 0, 4, 4}},
     [P_OF_SWEEP] = {"  p of a sweep           ", {0, 0, 20, 20}},
     [ENTRY_OF_TABLE] = {"  entry of a table       ", {0, 0, 10, 10}},
+    [ENTRY_OF_SHORTEST] = {"  entry, shortest list   ", {0, 0, 10, 10}},
     [ENTRY_OF_STEP_1] = {"  entry of a first step  ", {0, 0, 10, 10}},
     [ENTRY_OF_LATER_STEP] = {"  entry of a later step  ", {0, 0, 10, 10}},
 };
@@ -240,6 +281,9 @@ static unsigned long refused_wide_images[WINDOWFLOOR_FAMILIES + 1][REFUSED_WIDES
 static unsigned long wide_jobs[KINDS][WIDES_IN_JOB], wide_tables[WIDES_IN_TABLE];
 static unsigned long wide_sweeps[WINDOWFLOOR_SWEEP_FAMILIES + 1][WIDES_IN_SWEEP];
 static unsigned long at_borders[BOUNDED][BORDERS];
+static unsigned long shortest_lengths[TOLD_LENGTHS], shortest_sorts[SHORTEST_SORTS];
+static unsigned long shortest_extents[SHORTEST_BUFFERS][EXTENTS], shortest_alone[SHORTEST_BUFFERS];
+static unsigned long tables_behind_10[BEHIND_10];
 static unsigned long fewest_windows[WINDOWFLOOR_MOST_COPIES + 1];
 static unsigned long numbers_of_copies[WINDOWFLOOR_MOST_COPIES + 1];
 static unsigned long exact_sorts[EXACT_SORTS], too_many_copies[TOO_MANY];
@@ -554,6 +598,185 @@ static void compare_table(void)
     count_table(&in, library.number, library_places(&working));
 }
 
+/* A table for a shortest list: what the library's table check says of it, with the same places. */
+static struct windowfloor_table_answer checked(const struct shortest_input *in, const uint32_t *table)
+{
+    static uint64_t working[ROOM_PLACES];
+    static uint32_t list[ROOM_PLACES];
+    return windowfloor_table_check(table, in->count, working, lesser(in->working_places, in->second_places), list,
+                                   in->list_places);
+}
+
+/* Whether the two answers go together. */
+static int goes_with_check(const struct windowfloor_shortest_answer *shortest,
+                           const struct windowfloor_table_answer *check)
+{
+    switch (shortest->number) {
+    case 0: return check->number == WINDOWFLOOR_NOT_DUAL_FEASIBLE && shortest->length <= check->length;
+    case WINDOWFLOOR_DUAL_FEASIBLE: return check->number == 0;
+    default: return shortest->number == check->number;
+    }
+}
+
+static uint64_t images_of(const uint32_t *table, const uint32_t *list, uint64_t length)
+{
+    uint64_t images = 0;
+    for (uint64_t i = 0; i < length; i++)
+        images += table[list[i]];
+    return images;
+}
+
+static int all_same(const uint32_t *numbers, size_t n)
+{
+    for (size_t i = 1; i < n; i++)
+        if (numbers[i] != numbers[0])
+            return 0;
+    return 1;
+}
+
+static uint64_t total_of(const uint32_t *numbers, size_t n)
+{
+    uint64_t total = 0;
+    for (size_t i = 0; i < n; i++)
+        total += numbers[i];
+    return total;
+}
+
+static void count_shown(const struct shortest_input *in, const uint32_t *list, uint64_t length,
+                        uint64_t check_length)
+{
+    unsigned long *sorts = shortest_sorts;
+    size_t capacity = in->count - 1;
+    uint64_t total = total_of(list, length), images = images_of(in->entries, list, length);
+    for (int i = 0; i < TOLD_LENGTHS; i++)
+        shortest_lengths[i] += length == told_lengths[i];
+    sorts[length % 2 == 0 ? EVEN_LENGTH : ODD_LENGTH]++;
+    sorts[ONES_OF_CAPACITY] += length == capacity && capacity > 2;
+    sorts[ONES_OF_2047] += length == 2047;
+    sorts[length < check_length ? SHORTER : AS_LONG_AS_CHECK]++;
+    sorts[A_TENTH] += 10 * length <= check_length;
+    sorts[OTHER_SIZES] += !all_same(list, length);
+    sorts[ONE_SIZE_REPEATED] += length > 1 && all_same(list, length);
+    sorts[total < capacity ? CAPACITY_LEFT : NO_CAPACITY_LEFT]++;
+    sorts[ONE_OVER_LAST] += images == in->entries[capacity] + (uint64_t)1;
+    sorts[IMAGES_OVER_32_BITS] += images > UINT32_MAX;
+}
+
+/* How many places more than the least, or fewer, the buffers have. */
+static void read_extra(const struct shortest_input *in, long extra[SHORTEST_BUFFERS])
+{
+    extra[FIRST_WORKING] = (long)in->working_places - (long)in->count;
+    extra[SECOND_WORKING] = (long)in->second_places - (long)in->count;
+    extra[SHOWN_LIST] = (long)in->list_places - (long)in->count + 1;
+}
+
+static void count_extents(const struct shortest_input *in)
+{
+    long extra[SHORTEST_BUFFERS];
+    read_extra(in, extra);
+    for (int buffer = 0; buffer < SHORTEST_BUFFERS; buffer++) {
+        unsigned long *extents = shortest_extents[buffer];
+        extents[LEAST] += extra[buffer] == 0;
+        extents[ONE_MORE] += extra[buffer] == 1;
+        extents[A_FEW_MORE] += extra[buffer] > 1 && extra[buffer] <= 20;
+        extents[MANY_MORE] += extra[buffer] > 100;
+    }
+}
+
+/* Of a table refused with 7: which buffer is short, and what the table would give if none were. */
+static void count_short_shortest(const struct shortest_input *in)
+{
+    static uint64_t working[ROOM_PLACES];
+    static uint32_t list[ROOM_PLACES];
+    long extra[SHORTEST_BUFFERS];
+    int all = 0;
+    read_extra(in, extra);
+    for (int buffer = 0; buffer < SHORTEST_BUFFERS; buffer++)
+        all += extra[buffer] < 0;
+    for (int buffer = 0; buffer < SHORTEST_BUFFERS; buffer++)
+        shortest_alone[buffer] += all == 1 && extra[buffer] < 0;
+    seen[BEHIND_7_OF_SHORTEST][reference_shortest(in->entries, in->count, working, in->count, working, in->count,
+                                                  list, in->count - 1).number]++;
+}
+
+static void count_behind_10(const struct shortest_input *in)
+{
+    static uint64_t best[ROOM_PLACES];
+    size_t capacity = in->count - 1;
+    reference_bests(in->entries, capacity, best);
+    tables_behind_10[best[capacity] > in->entries[capacity] ? OVERSHOT_BEHIND_10 : FEASIBLE_BEHIND_10]++;
+}
+
+static void count_shortest(const struct shortest_input *in, const struct windowfloor_shortest_answer *answer,
+                           const uint32_t *list, uint64_t check_length)
+{
+    switch (answer->number) {
+    case 0:
+        count_shown(in, list, answer->length, check_length);
+        count_extents(in);
+        break;
+    case WINDOWFLOOR_SHORT_BUFFER: count_short_shortest(in); break;
+    case WINDOWFLOOR_ENTRY_TOO_LARGE: count_behind_10(in); break;
+    }
+    if (answer->number == 0 || answer->number == WINDOWFLOOR_ENTRY_TOO_LARGE)
+        count_border(ENTRY_OF_SHORTEST, greatest(in->entries, in->count), answer->number);
+}
+
+/* The buffers that are lent for a shortest list. */
+struct lent_to_shortest {
+    struct lent working, second, list;
+};
+
+/* Whether they are as they have to be after this number. Refusals 6 to 10 leave the working buffers, and else
+ * those are free; which list is shown is free too, so that the reference's places become the library's. */
+static int right_after(struct lent_to_shortest *lent, const struct shortest_input *in, const uint32_t *table,
+                       const struct windowfloor_shortest_answer *reference)
+{
+    int accepted = reference->number == 0, working_free = accepted || reference->number == WINDOWFLOOR_DUAL_FEASIBLE;
+    uint32_t *shown = library_places(&lent->list), *places = reference_places(&lent->list);
+    if (accepted && !is_overshooting(table, in->count, shown, reference->length))
+        return 0;
+    memcpy(places, shown, reference->length * sizeof *shown);
+    if (working_free)
+        return same_buffers(&lent->list) && same_margins(&lent->working) && same_margins(&lent->second);
+    return same_buffers(&lent->list) && same_buffers(&lent->working) && same_buffers(&lent->second);
+}
+
+static void judge_check(const struct shortest_input *in, const struct windowfloor_shortest_answer *shortest,
+                        const struct windowfloor_table_answer *check)
+{
+    if (goes_with_check(shortest, check))
+        return;
+    printf("%s does not go with the table check\n", names[SHORTEST]);
+    print_answer("shortest list", (const uint64_t *)shortest, 2);
+    print_answer("table check", (const uint64_t *)check, 2);
+    print_bytes(in->entries, in->count * sizeof *in->entries);
+    exit(1);
+}
+
+static void compare_shortest(const struct shortest_input *in)
+{
+    static struct lent_to_shortest lent;
+    size_t bytes = in->count * sizeof *in->entries;
+    const uint32_t *table = at_edge(first_edge, in->entries, bytes);
+    lend(&lent.working, sizeof(uint64_t), in->working_places);
+    lend(&lent.second, sizeof(uint64_t), in->second_places);
+    lend(&lent.list, sizeof(uint32_t), in->list_places);
+    struct windowfloor_shortest_answer library =
+        windowfloor_shortest(table, in->count, library_places(&lent.working), in->working_places,
+                             library_places(&lent.second), in->second_places, library_places(&lent.list),
+                             in->list_places);
+    struct windowfloor_shortest_answer reference =
+        reference_shortest(table, in->count, reference_places(&lent.working), in->working_places,
+                           reference_places(&lent.second), in->second_places, reference_places(&lent.list),
+                           in->list_places);
+    int right = right_after(&lent, in, table, &reference) && memcmp(table, in->entries, bytes) == 0;
+    judge(SHORTEST, &library, &reference, sizeof library, right, in->entries, bytes);
+    struct windowfloor_table_answer check = checked(in, table);
+    judge_check(in, &library, &check);
+    count_shortest(in, &library, library_places(&lent.list), check.length);
+}
+
 static enum kind kind_of(const struct job_input *in)
 {
     switch (in->length > 3 ? in->bytes[3] : 0) {
@@ -613,14 +836,6 @@ static void count_step(const struct job_input *in, const struct windowfloor_cut_
         exit(1);
     }
     counts[steps]++;
-}
-
-static int all_same(const uint32_t *numbers, size_t n)
-{
-    for (size_t i = 1; i < n; i++)
-        if (numbers[i] != numbers[0])
-            return 0;
-    return 1;
 }
 
 static enum shape shape_of(const struct job_input *in, const uint32_t *scales, size_t rows)
@@ -1223,14 +1438,6 @@ static int by_falling_size(const void *a, const void *b)
     return (first < second) - (first > second);
 }
 
-static uint64_t total_of(const uint32_t *copies, size_t n)
-{
-    uint64_t total = 0;
-    for (size_t i = 0; i < n; i++)
-        total += copies[i];
-    return total;
-}
-
 static void count_accepted_exact(const struct exact_input *in, uint32_t *copies, size_t n, uint64_t fewest)
 {
     uint64_t total = total_of(copies, n);
@@ -1309,6 +1516,23 @@ static void check_assignments(void)
     for (size_t i = 0; i < sizeof shown / sizeof *shown; i++)
         if (is_assignment(10, copies, 4, shown[i].windows, 2) != shown[i].right) {
             printf("is_assignment is wrong about the windows at %zu\n", i);
+            exit(1);
+        }
+}
+
+/* Of a table of 5 entries what overshoots, and what does not: the same total as the last entry, too large a total,
+ * a size 0, a size past the last, sizes that overshoot only with one more. */
+static void check_overshooting(void)
+{
+    static const uint32_t table[] = {0, 1, 3, 3, 5};
+    static const struct { uint32_t list[3]; uint64_t length; int right; } shown[] = {
+        {{2, 2}, 2, 1},    {{1, 1, 2}, 3, 0},  {{3, 2}, 2, 0}, {{2, 2, 0}, 3, 0}, {{4}, 1, 0},
+        {{5}, 1, 0},       {{2}, 1, 0},        {{1}, 0, 0},    {{UINT32_MAX, 2, 2}, 3, 0},
+        {{2, 2, 1}, 3, 0}, {{2, 2, 1}, 2, 1},
+    };
+    for (size_t i = 0; i < sizeof shown / sizeof *shown; i++)
+        if (is_overshooting(table, 5, shown[i].list, shown[i].length) != shown[i].right) {
+            printf("is_overshooting is wrong about the list at %zu\n", i);
             exit(1);
         }
 }
@@ -1483,6 +1707,51 @@ static void compare_exact_edges(void)
             }
 }
 
+/* Every choice of the refusals. */
+static void compare_shortest_refusals(void)
+{
+    static struct shortest_input in;
+    for (unsigned faults = 0; faults < 1u << SHORTEST_FAULTS; faults++) {
+        shortest_of_faults(&in, faults);
+        compare_shortest(&in);
+    }
+}
+
+/* Buffers of about the least places, and of many more. */
+static void compare_shortest_places(void)
+{
+    static const size_t entries[] = {2, 3, 4, 129, 2047, 2048};
+    static const int more[] = {-1, 0, 1, 32}, many[] = {2000, 2000, 2000, 1800, 33, 32};
+    static struct shortest_input in;
+    for (size_t i = 0; i < sizeof entries / sizeof *entries; i++) {
+        for (int choice = 0; choice < 64; choice++) {
+            shortest_of_places(&in, entries[i], more[choice % 4], more[choice / 4 % 4], more[choice / 16]);
+            compare_shortest(&in);
+        }
+        shortest_of_places(&in, entries[i], many[i], many[i], many[i]);
+        compare_shortest(&in);
+    }
+}
+
+/* From two sizes to as many as the capacity, where only ones overshoot, and one more, which none do. */
+static void compare_lengths_of_shortest(void)
+{
+    static const size_t capacities[] = {2, 3, 4, 5, 7, 8, 9, 15, 16, 17, 64, 65, 70};
+    static struct shortest_input in;
+    for (size_t i = 0; i < sizeof capacities / sizeof *capacities; i++) {
+        for (size_t fewest = 2; fewest <= capacities[i] + 1; fewest++) {
+            shortest_of_fewest(&in, capacities[i], fewest);
+            compare_shortest(&in);
+        }
+        shortest_of_ones(&in, capacities[i]);
+        compare_shortest(&in);
+    }
+    shortest_of_ones(&in, 2047);
+    compare_shortest(&in);
+    shortest_of_fewest(&in, 300, 255);
+    compare_shortest(&in);
+}
+
 static void compare_chains_at_limit(void)
 {
     static struct job_input job;
@@ -1540,6 +1809,7 @@ static void compare_largest(void)
 
 static void compare_round(void)
 {
+    static struct shortest_input shortest;
     static struct job_input job;
     static struct sweep_input sweep;
     static struct exact_input exact;
@@ -1547,6 +1817,10 @@ static void compare_round(void)
         compare_image();
     for (int i = 0; i < 6; i++)
         compare_table();
+    for (int i = 0; i < 3; i++) {
+        random_shortest(&shortest);
+        compare_shortest(&shortest);
+    }
     for (int i = 0; i < 9; i++) {
         random_job(&job);
         if (below(3) == 0)
@@ -1570,6 +1844,7 @@ static void compare_round(void)
 static const unsigned char due[TALLIES][NUMBERS] = {
     [IMAGE] = {[0] = 1, [1] = 1, [2] = 1, [3] = 1, [4] = 1, [5] = 1},
     [TABLE] = {[0] = 1, [6] = 1, [7] = 1, [8] = 1, [9] = 1, [10] = 1, [11] = 1},
+    [SHORTEST] = {[0] = 1, [6] = 1, [7] = 1, [8] = 1, [9] = 1, [10] = 1, [25] = 1},
     [FLOOR_JOB] = {[0] = 1, [1] = 1, [2] = 1, [3] = 1, [4] = 1, [7] = 1, [8] = 1, [9] = 1, [10] = 1,
                    [11] = 1, [12] = 1, [13] = 1, [14] = 1, [15] = 1, [16] = 1, [17] = 1, [18] = 1, [22] = 1,
                    [23] = 1},
@@ -1613,6 +1888,7 @@ static const unsigned char due[TALLIES][NUMBERS] = {
                        [17] = 1, [18] = 1, [22] = 1, [23] = 1},
     [WRONG_BLOCKS] = {[1] = 1, [17] = 1, [22] = 1, [23] = 1},
     [BEHIND_23] = {[0] = 1, [3] = 1, [4] = 1, [8] = 1, [9] = 1, [11] = 1, [18] = 1},
+    [BEHIND_7_OF_SHORTEST] = {[0] = 1, [8] = 1, [9] = 1, [10] = 1, [25] = 1},
 };
 
 /* Prints the counts of a tally; answers its inputs. */
@@ -1740,6 +2016,19 @@ static void report_tallies(const char *what, enum tally first, enum tally last, 
         report(tally, lacking);
 }
 
+static void report_shortest(int *lacking)
+{
+    report_tallies("tables refused with 7 for a shortest list by the number with longer buffers",
+                   BEHIND_7_OF_SHORTEST, BEHIND_7_OF_SHORTEST, lacking);
+    report_named("  for one buffer", shortest_buffer_names, shortest_alone, SHORTEST_BUFFERS, lacking);
+    report_named("  refused with 10 for it, but", behind_10_names, tables_behind_10, BEHIND_10, lacking);
+    report_named("shortest lists by length", length_names, shortest_lengths, TOLD_LENGTHS, lacking);
+    report_named("  by sort", shortest_sort_names, shortest_sorts, SHORTEST_SORTS, lacking);
+    printf("  by places of their buffers\n");
+    for (int buffer = 0; buffer < SHORTEST_BUFFERS; buffer++)
+        report_named(shortest_buffer_names[buffer], extent_names, shortest_extents[buffer], EXTENTS, lacking);
+}
+
 static void report_exact(int *lacking)
 {
     const int most = WINDOWFLOOR_MOST_COPIES + 1;
@@ -1759,6 +2048,15 @@ static void report_short_buffers(int *lacking)
         report_named(operation_names[operation], buffer_names, short_buffers[operation], BUFFERS, lacking);
         report_named("    own  ", kind_names, short_own[operation], KINDS, lacking);
     }
+}
+
+static void report_steps(int *lacking)
+{
+    report_named("accepted jobs by shape", shape_names, accepted_shapes, SHAPES, lacking);
+    report_each("accepted jobs by steps  ", accepted_steps[0], STEPS, lacking);
+    report_each("  of rows               ", accepted_steps[1], STEPS, lacking);
+    report_each("refused jobs by step    ", refused_step[0], STEPS, lacking);
+    report_each("  of rows               ", refused_step[1], STEPS, lacking);
 }
 
 static unsigned long report_all(int *lacking)
@@ -1795,13 +2093,10 @@ static unsigned long report_all(int *lacking)
     report_named("tables over the old limit", wide_table_names, wide_tables, WIDES_IN_TABLE, lacking);
     report_wide_jobs(lacking);
     report_wide_sweeps(lacking);
+    report_shortest(lacking);
     report_exact(lacking);
     report_borders(lacking);
-    report_named("accepted jobs by shape", shape_names, accepted_shapes, SHAPES, lacking);
-    report_each("accepted jobs by steps  ", accepted_steps[0], STEPS, lacking);
-    report_each("  of rows               ", accepted_steps[1], STEPS, lacking);
-    report_each("refused jobs by step    ", refused_step[0], STEPS, lacking);
-    report_each("  of rows               ", refused_step[1], STEPS, lacking);
+    report_steps(lacking);
     return inputs;
 }
 
@@ -1821,6 +2116,9 @@ static void compare_all(unsigned long rounds)
     compare_largest_blocks();
     compare_chains_at_limit();
     compare_exact_edges();
+    compare_shortest_refusals();
+    compare_shortest_places();
+    compare_lengths_of_shortest();
     memcpy(before_rounds, seen, sizeof before_rounds);
     for (unsigned long i = 0; i < rounds; i++)
         compare_round();
@@ -1838,6 +2136,7 @@ int main(int argc, char **argv)
     second_edge = new_edge();
     make_pattern();
     check_assignments();
+    check_overshooting();
     compare_all(rounds);
     unsigned long inputs = report_all(&lacking);
     printf("compare: %lu inputs, all the same%s\n", inputs, lacking ? ", but too narrow" : "");

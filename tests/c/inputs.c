@@ -415,6 +415,148 @@ void random_table(struct table_input *in)
     }
 }
 
+/* Shortest */
+
+/* Entries that rise at few sizes or at most, by little or by much, with ties between. */
+static void rising_entries(uint32_t *entries, size_t capacity)
+{
+    uint64_t apart = 1 + below(one_in(3) ? 10 : 2), most = one_in(3) ? 1000000 : 1 + below(4);
+    entries[0] = 0;
+    for (size_t x = 1; x <= capacity; x++)
+        entries[x] = entries[x - 1] + (uint32_t)(one_in(apart) ? below(most + 1) : 0);
+}
+
+/* Of lists that fill the capacity, or nearly, those of more sizes total more. */
+static void even_entries(uint32_t *entries, size_t capacity)
+{
+    uint64_t width = one_in(3) ? 1 + below(5) : 1, share = below(5), more = 1 + below(3);
+    for (size_t x = 0; x <= capacity; x++)
+        entries[x] = (uint32_t)(x < width ? 0 : share * (x / width) + more);
+}
+
+/* Nothing but of one size, or all of another. */
+static void lone_entries(uint32_t *entries, size_t capacity)
+{
+    size_t size = 1 + ends_below(one_in(2) ? capacity : lesser(capacity, 3));
+    uint32_t image = one_in(3) ? border_entry() : 1 + (uint32_t)below(9), other = image / 2;
+    entries[0] = 0;
+    for (size_t x = 1; x <= capacity; x++)
+        entries[x] = x == size ? image : x > size ? other : 0;
+}
+
+/* The images of a family, often times a factor, and one of them by one away. */
+static void damaged_images(uint32_t *entries, size_t capacity)
+{
+    images_as_table(entries, capacity);
+    uint64_t most = entries[capacity] == 0 ? 1 : LIMIT / entries[capacity];
+    uint32_t factor = (uint32_t)(one_in(2) ? 1 : 1 + ends_below(most));
+    for (size_t x = 0; x <= capacity; x++)
+        entries[x] *= factor;
+    size_t at = 1 + ends_below(capacity);
+    if (at < capacity)
+        entries[at]++;
+    else if (entries[at] > 1)
+        entries[at]--;
+}
+
+/* From the greatest entry up to the greatest total: the more, the more sizes it takes to overshoot. At the total
+ * itself none do. */
+static void set_last_within(uint32_t *entries, size_t capacity)
+{
+    static uint64_t best[ROOM_ENTRIES];
+    uint64_t least = 1;
+    entries[capacity] = 0;
+    reference_bests(entries, capacity, best);
+    for (size_t x = 1; x < capacity; x++)
+        least = entries[x] > least ? entries[x] : least;
+    uint64_t last = best[capacity] <= least ? least : least + ends_below(best[capacity] - least + 1);
+    entries[capacity] = (uint32_t)lesser(one_in(8) ? least - (least > 1) : last, LIMIT);
+}
+
+static void fill_overshot(uint32_t *entries, size_t capacity)
+{
+    switch (below(6)) {
+    case 0: damaged_images(entries, capacity); return;
+    case 1: fill_table(entries, capacity); return;
+    case 2: rising_entries(entries, capacity); break;
+    case 3: lone_entries(entries, capacity); break;
+    case 4: random_entries(entries, capacity); break;
+    default: even_entries(entries, capacity); break;
+    }
+    set_last_within(entries, capacity);
+}
+
+/* As some_places, or many more. */
+static size_t shortest_places(size_t needed)
+{
+    return one_in(6) ? needed + below(2080 - needed) : some_places(needed, 40);
+}
+
+void random_shortest(struct shortest_input *in)
+{
+    size_t capacity = one_in(20) ? 1 + below(90) : one_in(12000) ? 2040 + below(8) : 1 + below(one_in(4) ? 40 : 12);
+    fill_overshot(in->entries, capacity);
+    in->count = capacity + 1;
+    if (one_in(10))
+        spoil_table(in->entries, in->count);
+    in->working_places = shortest_places(in->count);
+    in->second_places = shortest_places(in->count);
+    in->list_places = shortest_places(capacity);
+    if (one_in(50)) {
+        in->count = below(2) ? below(2) : 2049 + below(3);
+        memset(in->entries, 0, sizeof in->entries);
+    }
+}
+
+void shortest_of_faults(struct shortest_input *in, unsigned faults)
+{
+    static const uint32_t entries[] = {0, 1, 2, 4, 4, 5};
+    memcpy(in->entries, entries, sizeof entries);
+    in->count = faults & 1 ? 1 : 6;
+    in->working_places = faults & 2 ? 5 : 6;
+    in->second_places = faults & 4 ? 5 : 6;
+    in->list_places = faults & 8 ? 4 : 5;
+    in->entries[0] = faults & 16 ? 1 : 0;
+    in->entries[5] = faults & 32 ? 0 : 5;
+    if (faults & 128)
+        in->entries[3] = 3;
+    if (faults & 64)
+        in->entries[(faults & 160) == 128 ? 5 : 3] = WINDOWFLOOR_LIMIT + 1;
+}
+
+static void least_places(struct shortest_input *in, size_t entries)
+{
+    in->count = in->working_places = in->second_places = entries;
+    in->list_places = entries - 1;
+}
+
+/* A list of k sizes totals k, and 3 times what it takes of the capacity. */
+void shortest_of_fewest(struct shortest_input *in, size_t capacity, size_t fewest)
+{
+    least_places(in, capacity + 1);
+    in->entries[0] = 0;
+    for (size_t x = 1; x < capacity; x++)
+        in->entries[x] = (uint32_t)(3 * x + 1);
+    in->entries[capacity] = (uint32_t)(3 * capacity + fewest - 1);
+}
+
+/* A list totals its share of the greatest entry, but one less for each of its sizes over 1. */
+void shortest_of_ones(struct shortest_input *in, size_t capacity)
+{
+    uint64_t share = LIMIT / capacity;
+    least_places(in, capacity + 1);
+    for (size_t x = 0; x <= capacity; x++)
+        in->entries[x] = (uint32_t)(share * x - (x > 1));
+}
+
+void shortest_of_places(struct shortest_input *in, size_t entries, int working, int second, int list)
+{
+    shortest_of_fewest(in, entries - 1, 2);
+    in->working_places += (size_t)working;
+    in->second_places += (size_t)second;
+    in->list_places += (size_t)list;
+}
+
 /* Jobs */
 
 static void put_byte(struct job_input *in, uint64_t byte)

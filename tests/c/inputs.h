@@ -1,4 +1,4 @@
-/* Random inputs of the six operations: valid, at the limits, and damaged. */
+/* Random inputs of the seven operations: valid, at the limits, and damaged. */
 #ifndef INPUTS_H
 #define INPUTS_H
 
@@ -21,6 +21,11 @@ struct image_input {
 struct table_input {
     uint32_t entries[ROOM_ENTRIES];
     size_t count, working_places, list_places;
+};
+
+struct shortest_input {
+    uint32_t entries[ROOM_ENTRIES];
+    size_t count, working_places, second_places, list_places;
 };
 
 /* For either operation: its own buffer is that of the block floors or that of the scales. */
@@ -55,9 +60,25 @@ uint64_t below(uint64_t n); /* 0 to n - 1 */
 
 void random_image(struct image_input *in);
 void random_table(struct table_input *in);
+void random_shortest(struct shortest_input *in);
 void random_job(struct job_input *in);
 void random_sweep(struct sweep_input *in);
 void random_exact(struct exact_input *in);
+
+/* A table with each fault that has its bit set; the lowest bit is for the refusal that is asked first. With the
+ * last it is dual-feasible, else two sizes overshoot. */
+enum { SHORTEST_FAULTS = 8 };
+void shortest_of_faults(struct shortest_input *in, unsigned faults);
+
+/* A table of this capacity that so many sizes, 2 or more, are the fewest to overshoot; with one more than the
+ * capacity it is dual-feasible. All buffers have the least places. */
+void shortest_of_fewest(struct shortest_input *in, size_t capacity, size_t fewest);
+
+/* The same for as many sizes as the capacity, with images up to the limit: only ones overshoot. */
+void shortest_of_ones(struct shortest_input *in, size_t capacity);
+
+/* A table of so many entries, where these are right, and buffers with so many places more than the least, or less. */
+void shortest_of_places(struct shortest_input *in, size_t entries, int working, int second, int list);
 
 /* A sweep over some range, and a floor job of some steps, of a list that is in order. */
 void sweep_of_list(struct sweep_input *in, uint64_t capacity, const struct counted_list *list);

@@ -47,7 +47,7 @@ check_pc() { # FILE PREFIX
 check_flags() {
     local planner=$folder/planner
     rm -f "$planner"
-    "${CC:-gcc}" -std=c99 examples/planner.c "$@" -o "$planner"
+    "${CC:-gcc}" -std=c99 examples/planner.c examples/reading.c "$@" -o "$planner"
     "$planner" 10 6 6 6 | grep -x 'best floor 3: threshold, p = 5' >/dev/null || fail "planner with $*"
 }
 

@@ -256,6 +256,100 @@ struct windowfloor_table_answer reference_table_check(const uint32_t *table, siz
     return answer;
 }
 
+/* Shortest
+ *
+ * Breadth first, from the empty list on: level k is what lists of k sizes reach. A place of it is a capacity that
+ * they use in full, with the greatest total of their images and the last size of one that has it. No list is
+ * gone on from that another of as few sizes replaces, within its capacity and with no smaller total. */
+
+enum { MOST_ENTRIES = 2048 };
+
+struct level {
+    uint8_t open[MOST_ENTRIES];    /* gone on from */
+    uint64_t totals[MOST_ENTRIES]; /* 0: none */
+    uint16_t last_sizes[MOST_ENTRIES];
+};
+
+static void offer(struct level *level, size_t place, uint64_t total, size_t last_size)
+{
+    if (total <= level->totals[place])
+        return;
+    level->totals[place] = total;
+    level->last_sizes[place] = (uint16_t)last_size;
+}
+
+static void extend(const uint32_t *table, size_t capacity, const struct level *level, struct level *longer)
+{
+    memset(longer, 0, sizeof *longer);
+    for (size_t used = 0; used <= capacity; used++)
+        for (size_t size = 1; level->open[used] && used + size <= capacity; size++)
+            offer(longer, used + size, level->totals[used] + table[size], size);
+}
+
+/* Opens places of a level; answers how many. `most` has the greatest totals within each capacity. */
+static size_t open_places(struct level *level, size_t capacity, uint64_t *most)
+{
+    size_t opened = 0;
+    for (size_t place = 0; place <= capacity; place++) {
+        if (place > 0 && most[place - 1] > most[place])
+            most[place] = most[place - 1];
+        level->open[place] = level->totals[place] > most[place];
+        if (!level->open[place])
+            continue;
+        most[place] = level->totals[place];
+        opened++;
+    }
+    return opened;
+}
+
+/* From the last size back to the first. */
+static void write_back(const struct level *levels, size_t length, size_t place, uint32_t *list)
+{
+    for (; length > 0; length--) {
+        list[length - 1] = levels[length].last_sizes[place];
+        place -= list[length - 1];
+    }
+}
+
+/* Writes a list to the first places, and answers its length; 0 if none overshoots. */
+static size_t write_shortest(const uint32_t *table, size_t capacity, uint32_t *list)
+{
+    static struct level levels[MOST_ENTRIES + 1]; /* behind the capacity, one of no list */
+    uint64_t most[MOST_ENTRIES] = {0};
+    size_t length = 0, opened = 1;
+    memset(&levels[0], 0, sizeof levels[0]);
+    levels[0].open[0] = 1;
+    while (opened > 0 && most[capacity] <= table[capacity]) {
+        extend(table, capacity, &levels[length], &levels[length + 1]);
+        length++;
+        opened = open_places(&levels[length], capacity, most);
+    }
+    if (opened == 0)
+        return 0;
+    size_t place = 0;
+    while (levels[length].totals[place] <= table[capacity])
+        place++;
+    write_back(levels, length, place, list);
+    return length;
+}
+
+struct windowfloor_shortest_answer reference_shortest(const uint32_t *table, size_t entries,
+                                                      uint64_t *working, size_t working_places,
+                                                      uint64_t *second, size_t second_places,
+                                                      uint32_t *list, size_t list_places)
+{
+    struct windowfloor_shortest_answer answer = {0, 0};
+    size_t places = working_places < second_places ? working_places : second_places;
+    (void)working;
+    (void)second;
+    answer.number = early_table_refusal(table, entries, places, list_places);
+    if (answer.number != 0)
+        return answer;
+    answer.length = write_shortest(table, entries - 1, list);
+    answer.number = answer.length == 0 ? 25 : 0;
+    return answer;
+}
+
 /* Jobs: the fields
  *
  * A machine takes the bytes one by one, each once, and keeps the numbers that the values are made of. It

@@ -1,8 +1,10 @@
-/* The six operations once more, written from the scope document and the requests alone and with no
- * thought of speed, to be compared with the library. A job is read by a machine that takes byte for byte;
- * the library and the implementation in Python go from field to field. Each row is judged in full, its
- * tables too; the library checks a table once. The fewest windows are found by adding a copy to the last
- * window; the implementation in Python takes a window away. */
+/* The seven operations once more, with no thought of speed, to be compared with the library: six written from the
+ * scope document and the requests alone, the shortest list from docs/REFERENCE.md. A job is read by a machine that
+ * takes byte for byte; the library and the implementation in Python go from field to field. Each row is judged in
+ * full, its tables too; the library checks a table once. The fewest windows are found by adding a copy to the last
+ * window; the implementation in Python takes a window away. A shortest list is found breadth first, by the
+ * capacity that a list uses in full; the library has the greatest totals within each capacity, and looks for
+ * the two halves of the list. */
 #ifndef REFERENCE_H
 #define REFERENCE_H
 
@@ -13,6 +15,11 @@ struct windowfloor_image_answer reference_image(uint64_t capacity, uint8_t famil
 
 struct windowfloor_table_answer reference_table_check(const uint32_t *table, size_t entries,
                                                       uint64_t *working, size_t working_places,
+                                                      uint32_t *list, size_t list_places);
+
+struct windowfloor_shortest_answer reference_shortest(const uint32_t *table, size_t entries,
+                                                      uint64_t *working, size_t working_places,
+                                                      uint64_t *second, size_t second_places,
                                                       uint32_t *list, size_t list_places);
 
 struct windowfloor_floor_answer reference_floor(const uint8_t *job, size_t bytes,

@@ -182,6 +182,64 @@ class Exact(unittest.TestCase):
         self.assertGreaterEqual(met, 3)
 
 
+class Shortest(unittest.TestCase):
+
+    def setUp(self):
+        """The tables of 5.7: entries, the counterexample, the answer's two numbers, and a shortest list."""
+        self.tables = []
+        for row in rows(section("5.7 ")):
+            if len(row) == 5 and row[0][0].isdigit():
+                entries, found, shown = (numbers(row[column].split()) for column in (0, 1, 4))
+                self.tables.append((entries, found, (number(row[2]), number(row[3])), shown))
+
+    def test_tables(self):
+        """The table check shows the counterexample, and the list shown is as long as the answer says and overshoots."""
+        for entries, found, answer, shown in self.tables:
+            with self.subTest(entries=entries):
+                working, second, listed = [0] * len(entries), [0] * len(entries), [0] * (len(entries) - 1)
+                self.assertEqual(wf.shortest(entries, working, second, listed), answer)
+                self.assertEqual((len(shown), wf.shows(entries, shown)), (answer[1], answer[0] == wf.ACCEPTED))
+                checked = (wf.NOT_DUAL_FEASIBLE, len(found)) if answer[0] == wf.ACCEPTED else (wf.ACCEPTED, 0)
+                self.assertEqual(wf.table_check(entries, working, listed), checked)
+                self.assertEqual(listed[:len(found)], found)
+        self.assertEqual({answer[0] for _, _, answer, _ in self.tables}, {wf.ACCEPTED, wf.DUAL_FEASIBLE})
+        self.assertTrue(any(len(found) > len(shown) for _, found, _, shown in self.tables))
+
+    def test_example(self):
+        """The last of them is the example's."""
+        text = (ROOT / "examples" / "solver.table").read_text(encoding="utf-8")
+        self.assertEqual(self.tables[-1][0], numbers(text.split()))
+
+    def test_rows(self):
+        """The rows that 5.7 defines, and the list that it finds by them, whichever sizes are taken."""
+        for entries, _, (refused, length), _ in self.tables:
+            if refused == wf.ACCEPTED:
+                made = rows_of(entries)
+                self.assertEqual(len(made) - 1, length)
+                for most in (min, max):
+                    self.assertTrue(wf.shows(entries, list_by(entries, made, most)))
+
+
+def rows_of(entries):
+    """Rows 0 to the length of 5.7."""
+    made = [[0] * len(entries)]
+    while made[-1][-1] <= entries[-1]:
+        before = made[-1]
+        made.append([max([before[c]] + [entries[y] + before[c - y] for y in range(1, c + 1)])
+                     for c in range(len(entries))])
+    return made
+
+
+def list_by(entries, made, chosen):
+    """The list of 5.7: for each row from the last on, one of the sizes that lead to what it has."""
+    found, c = [], len(entries) - 1
+    for before, row in zip(made[-2::-1], made[:0:-1]):
+        y = chosen(y for y in range(1, c + 1) if entries[y] + before[c - y] == row[c])
+        found.append(y)
+        c -= y
+    return found
+
+
 class Promises(unittest.TestCase):
 
     def setUp(self):
@@ -225,7 +283,7 @@ class Promises(unittest.TestCase):
             if len(row) == 4 and row[0] != "section":
                 led_from |= set(row[0].split(", "))
         self.assertLessEqual(led_from, headings)
-        self.assertLessEqual({"2.%d" % k for k in range(1, 9)} | {"5.%d" % k for k in range(2, 7)},
+        self.assertLessEqual({"2.%d" % k for k in range(1, 9)} | {"5.%d" % k for k in range(2, 8)},
                              led_from)
 
 
@@ -242,7 +300,8 @@ def words_of(source):
     return {(module, word.strip()) for module, words in taken for word in words.split(",") if word.strip()}
 
 
-OPERATIONS = dict(functions="image", tables="table_check", floors="floor", cuts="cut", sweeps="sweep", exact="exact")
+OPERATIONS = dict(functions="image", tables="table_check", shortest="shortest", floors="floor", cuts="cut",
+                  sweeps="sweep", exact="exact")
 
 
 class Exports(unittest.TestCase):
@@ -280,7 +339,7 @@ class Names(unittest.TestCase):
             name = row[1].strip("`")
             self.assertEqual((in_header[name], getattr(wf, name)), (row[0], int(row[0])))
         last = int(re.search(r"#define WINDOWFLOOR_LAST_REFUSAL (\d+)", HEADER).group(1))
-        self.assertEqual(last, wf.TOO_MANY_COPIES)
+        self.assertEqual(last, wf.DUAL_FEASIBLE)
         self.assertEqual([int(row[0]) for row in documented], list(range(1, last + 1)))
 
     def test_limits(self):

@@ -2,11 +2,13 @@
 reckoned by hand from it and from the change requests for many rows, for tables
 of another capacity, for counts, for half of an odd window, for blocks, for the
 fewest windows and for floor and cut as separate calls ("02", tickets 1, 2, 4, 5,
-6, 8 and 9), and brute force over small capacities."""
+6, 8 and 9), and of the rules of shortest lists (version 5.1.0), and brute force over
+small capacities."""
 
 import itertools
 import random
 import unittest
+from collections import Counter
 from functools import lru_cache
 
 import windowfloor as wf
@@ -358,6 +360,132 @@ class Tables(unittest.TestCase):
         working, lst = [MARK] * 2048, [MARK] * 2047
         self.assertEqual(wf.table_check(entries, working, lst), (0, 0))
         self.assertEqual(working, entries)
+
+
+def brute_fewest(entries):
+    """The fewest sizes of a list that fits and overshoots, by trying all; None if there is none."""
+    fitting_lists = fitting(len(entries) - 1)
+    return min((len(sizes) for sizes in fitting_lists if wf.shows(entries, sizes)), default=None)
+
+
+def one_size(capacity, size, image, scale):
+    """A table in which one size and the capacity alone have images."""
+    return [image if x == size else 0 for x in range(capacity)] + [scale]
+
+
+class Shortest(unittest.TestCase):
+    """Version 5.1.0: shortest lists of tables that are not dual-feasible."""
+
+    def shortest(self, entries):
+        """Number, length and list. Behind the list the places stay."""
+        n = len(entries)
+        working, second, lst = [MARK] * (n + 3), [MARK] * (n + 1), [MARK] * (n + 2)
+        number, length = wf.shortest(entries, working, second, lst)
+        self.assertEqual(lst[length:], [MARK] * (n + 2 - length))
+        return number, length, lst[:length]
+
+    def assert_fewest(self, entries, fewest):
+        """None: the table is dual-feasible."""
+        with self.subTest(entries=entries[:60]):
+            number, length, found = self.shortest(entries)
+            self.assertEqual((number, length), (25, 0) if fewest is None else (0, fewest))
+            if fewest is not None:
+                self.assertTrue(wf.shows(entries, found))
+                self.assertNotIn(0, found)
+
+    def test_reckoned(self):
+        for entries, fewest in [
+                ([0, 0, 2, 1], 1), ([0, 1, 1, 2], 3), ([0, 1, 1, 1, 1, 5], None), ([0, 1, 1, 1, 1, 4], 5),
+                ([0, 1], None), ([0, LIMIT], None), ([0, 1, 1], 2), ([0, 2, 1], 1), ([0, 1, 2], None),
+                ([0, 1, 2, 3, 4, 4], 2),        # 1 and 4, or 2 and 3
+                ([0, 1, 2, 2, 2, 4], 3),        # 1, 2 and 2
+                ([0, 3, 4, 6, 7, 8, 10, 20], 7), ([0, 3, 4, 6, 7, 8, 10, 17], 5),
+                ([0, 3, 4, 6, 7, 8, 10, 15], 4), ([0, 3, 4, 6, 7, 8, 10, 12], 2),
+                ([0, 0, 5, 0, 9, 0, 0, 14], 3), ([0, 0, 5, 0, 9, 0, 0, 13], 2), ([0, 0, 5, 0, 9, 0, 0, 15], None)]:
+            self.assert_fewest(entries, fewest)
+
+    def test_numbers_of_sizes(self):
+        """Up to all that fit, by one size: so many of it overshoot, and one less does not."""
+        for fewest in (1, 2, 3, 4, 5, 7, 8, 9, 15, 16, 17, 31, 32, 33):
+            for size, spare in ((1, 1), (2, 1), (3, 2)):
+                for scale in (5 * fewest - 1, 5 * fewest - 5):
+                    if scale > 0:
+                        self.assert_fewest(one_size(fewest * size + spare, size, 5, scale), fewest)
+                self.assert_fewest(one_size(fewest * size + spare, size, 5, 5 * fewest + spare // size * 5), None)
+
+    def test_rows(self):
+        """Against all lists."""
+        rng = random.Random(30)
+        for _ in range(60):
+            entries = [0] + [rng.choice((0, rng.randint(0, 9))) for _ in range(7)]
+            row = [0] * 8
+            for k in range(1, 9):
+                row = wf.row_after(row, entries)
+                self.assertEqual(row, [max(sum(entries[x] for x in sizes) for sizes in fitting(c) if len(sizes) <= k)
+                                       for c in range(8)])
+
+    def test_every_tiny_table(self):
+        """Against all lists; 25 just where the table check accepts."""
+        for capacity in range(1, 5):
+            for images in itertools.product(range(4), repeat=capacity):
+                entries = [0, *images]
+                if entries[-1] > 0:
+                    self.assert_fewest(entries, brute_fewest(entries))
+                    accepted = wf.table_check(entries, [0] * 9, [0] * 9)[0] == 0
+                    self.assertEqual(self.shortest(entries)[0] == 25, accepted)
+
+    def test_random_tables(self):
+        """Against all lists, and never longer than that of the table check, often shorter."""
+        rng = random.Random(31)
+        met = Counter()
+        for _ in range(1500):
+            capacity, slope = rng.randint(1, 10), rng.randint(1, 3)
+            entries = [0] + [rng.randint(0, slope * x + 1) for x in range(1, capacity)] + [0]
+            entries[-1] = max(1, wf.best_totals(entries)[-1] - rng.randint(0, 3))
+            fewest = brute_fewest(entries)
+            self.assert_fewest(entries, fewest)
+            met[fewest] += 1
+            _, length = wf.table_check(entries, [0] * 11, [0] * 10)
+            self.assertGreaterEqual(length, fewest or 0)
+            met["shorter"] += length > (fewest or 0)
+        self.assertGreater(min(met[which] for which in (None, 1, 2, 3, 4, 5, "shorter")), 20, met)
+
+    def test_large_tables(self):
+        """Of capacity 2,047, up to the longest list: only ones overshoot."""
+        self.assert_fewest([0, 1] + [0] * 2045 + [2046], 2047)
+        self.assert_fewest([0, 1] + [0] * 2045 + [2047], None)
+        self.assert_fewest([0, LIMIT] + [0] * 2045 + [LIMIT], 2)
+        self.assert_fewest(list(range(2047)) + [2046], 2)
+        self.assert_fewest(list(range(2048)), None)
+        self.assert_fewest([0] * 1024 + [LIMIT] + [0] * 1022 + [LIMIT - 1], 1)
+        self.assert_fewest(one_size(2047, 62, LIMIT // 32, LIMIT), 33)
+
+    def assert_refused(self, number, entries, working, second, listed):
+        lent = [[MARK] * places for places in (working, second, listed)]
+        with self.subTest(entries=entries[:9], lent=(working, second, listed)):
+            self.assertEqual(wf.shortest(entries, *lent), (number, 0))
+            self.assertEqual(lent, [[MARK] * places for places in (working, second, listed)])
+
+    def test_refusals(self):
+        """They write nothing."""
+        large = LIMIT + 1
+        for number, entries, *places in [
+                (6, [], 0, 0, 0), (6, [0], 9, 9, 9), (6, [0] * 2049, 2049, 2049, 2048), (7, [0, 1], 1, 2, 1),
+                (7, [0, 1], 2, 1, 1), (7, [0, 1], 2, 2, 0), (7, [0, 1, 1], 0, 3, 2), (7, [0, 1, 1], 3, 0, 2),
+                (8, [1, 1], 2, 2, 1), (8, [large, 1], 2, 2, 1), (9, [0, 0], 2, 2, 1), (9, [0, 1, 0], 3, 3, 2),
+                (10, [0, large], 2, 2, 1), (10, [0, large, 1], 3, 3, 2), (10, [0, 2**32 - 1, 1], 9, 9, 9)]:
+            self.assert_refused(number, entries, *places)
+
+    def test_order_of_refusals(self):
+        """Every choice of faults: the one that is asked first is told."""
+        order = 6, 7, 8, 9, 10
+        for size in range(1, 6):
+            for faults in itertools.combinations(order, size):
+                entries = [int(8 in faults), LIMIT + int(10 in faults), 1 - int(9 in faults)]
+                entries += [1] * 2048 if 6 in faults else []
+                n = len(entries)
+                for short in ((1, 0, 0), (0, 1, 0), (0, 0, 1), (1, 1, 1)) if 7 in faults else ((0, 0, 0),):
+                    self.assert_refused(faults[0], entries, n - short[0], n - short[1], n - 1 - short[2])
 
 
 class Refusals(unittest.TestCase):

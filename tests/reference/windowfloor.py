@@ -2,15 +2,16 @@
 requests for many rows, for tables of another capacity, for counts of identical
 sizes, for half of an odd window, for blocks, for finer units, for the fewest
 windows of short lists and for separate calls of floor and cut ("02", tickets 1,
-2 and 4 to 9), written for clarity. Numbers may be of any size. Comments name the
-section of 01, or the ticket of 02, that a function follows."""
+2 and 4 to 9), and for the operation of version 5.1.0, shortest, written for clarity.
+Numbers may be of any size. Comments name the section of 01, the ticket of 02, or the
+version that a function follows."""
 
 import sys
 from functools import lru_cache
 
 LIMIT = 4_000_000_000  # capacities, parameters, scales and table entries (02, ticket 7)
 
-# Refusal numbers (01, Operations and what they refuse; 02, tickets 1, 4, 6 and 8).
+# Refusal numbers (01, Operations and what they refuse; 02, tickets 1, 4, 6 and 8; version 5.1.0).
 ACCEPTED = 0
 BAD_CAPACITY = 1
 BAD_FAMILY = 2
@@ -36,6 +37,7 @@ BAD_ROWS = 21
 COUNT_0 = 22
 BAD_BLOCKS = 23
 TOO_MANY_COPIES = 24
+DUAL_FEASIBLE = 25
 
 FLOOR, CUT, ROWS = 1, 2, 3  # kinds
 FLOOR_KINDS, CUT_KINDS = (FLOOR,), (CUT, ROWS)  # that the floor and the cut operation take
@@ -298,6 +300,54 @@ def table_check(entries, working, lst):
     found = counterexample(entries, best)
     lst[:len(found)] = found
     return NOT_DUAL_FEASIBLE, len(found)
+
+
+# Version 5.1.0: Shortest
+
+def row_after(row, entries):
+    """Row k, of row k - 1. Place c of row k is the greatest total of images over lists of at most k sizes that fit c. A
+    list is empty, or it has a size y and a rest, of at most k - 1 sizes, that fits c - y. Images of 0 add nothing."""
+    sizes = [y for y, entry in enumerate(entries) if entry > 0]
+    return [max((entries[y] + row[c - y] for y in sizes if y <= c), default=0) for c in range(len(row))]
+
+
+def shortest_rows(entries):
+    """Rows 0, 1 and so on, up to the first whose last place is over the last entry."""
+    rows = [[0] * len(entries)]
+    while rows[-1][-1] <= entries[-1]:
+        rows.append(row_after(rows[-1], entries))
+    return rows
+
+
+def shortest_list(entries):
+    """A size for each row but row 0, from the last one on: it leaves the rest to the row before."""
+    rows, c, found = shortest_rows(entries), len(entries) - 1, []
+    while len(found) < len(rows) - 1:
+        row, before = rows[-1 - len(found)], rows[-2 - len(found)]
+        y = 1
+        while entries[y] + before[c - y] != row[c]:
+            y += 1
+        found.append(y)
+        c -= y
+    return found
+
+
+def shows(entries, sizes):
+    """The sizes total at most C, and their images more than the last entry. Which shortest list does it is free."""
+    return sum(sizes) <= len(entries) - 1 and sum(entries[y] for y in sizes) > entries[-1]
+
+
+def shortest(entries, working, second, lst):
+    """Shortest -> (number, length). 25 comes where the table check accepts. Both working buffers may hold anything
+    after acceptance and 25; here they stay."""
+    number = early_table_refusal(entries, min(working, second, key=len), lst)
+    if number != ACCEPTED:
+        return number, 0
+    if known_best(tuple(entries))[-1] <= entries[-1]:
+        return DUAL_FEASIBLE, 0
+    found = shortest_list(entries)
+    lst[:len(found)] = found
+    return ACCEPTED, len(found)
 
 
 # 01, Jobs: the fields

@@ -12,6 +12,7 @@
 #include <string.h>
 
 #include "../c/assignment.h"
+#include "../c/overshooting.h"
 #include "windowfloor.h"
 
 enum { ROOM_BYTES = 2 * 65536, ROOM_PLACES = 4096, MARGIN = 16 };
@@ -173,6 +174,47 @@ static void table(void)
     print_buffer(&list);
 }
 
+static uint32_t *places(struct lent *buffer)
+{
+    return (uint32_t *)buffer->memory + MARGIN;
+}
+
+/* Whether the first places show a list that overshoots; they then are as before the call, since which
+ * shortest list it is is free. */
+static int take_list(struct lent *list, const uint32_t *entries, size_t count, uint64_t length)
+{
+    uint32_t *shown = places(list);
+    if (length > list->places)
+        return 0;
+    int right = is_overshooting(entries, count, shown, length);
+    for (size_t i = 0; i < length; i++)
+        shown[i] = (uint32_t)untouched(list, MARGIN + i);
+    return right;
+}
+
+/* The places of the list are told as `right` alone, 0 if refused. The working buffers are free after
+ * acceptance and 25, and are not printed then. */
+static void shortest(void)
+{
+    static uint32_t entries[ROOM_PLACES];
+    static struct lent working, second, list;
+    size_t count = numbers("entries", entries);
+    uint64_t *lent_working = lend(&working, "working", 8, count);
+    uint64_t *lent_second = lend(&second, "second", 8, count);
+    uint32_t *lent_list = lend(&list, "list", 4, count > 0 ? count - 1 : 0);
+    struct windowfloor_shortest_answer answer =
+        windowfloor_shortest(entries, count, lent_working, working.places, lent_second, second.places,
+                             lent_list, list.places);
+    PRINT(answer, number);
+    PRINT(answer, length);
+    printf(" right=%d", answer.number == 0 && take_list(&list, entries, count, answer.length));
+    print_buffer(&list);
+    if (answer.number != 0 && answer.number != WINDOWFLOOR_DUAL_FEASIBLE) {
+        print_buffer(&working);
+        print_buffer(&second);
+    }
+}
+
 /* What both operations over a job get: `own` is the buffer that the other one does not have. The working
  * buffer is free afterwards, and is not printed. */
 struct job {
@@ -180,11 +222,6 @@ struct job {
     size_t count;
     struct lent images, working, list, own;
 };
-
-static uint32_t *places(struct lent *buffer)
-{
-    return (uint32_t *)buffer->memory + MARGIN;
-}
 
 static void lend_to_job(struct job *job, const char *own)
 {
@@ -316,8 +353,8 @@ static void exact(void)
 static const struct {
     const char *name;
     void (*run)(void);
-} operations[] = {{"image", image}, {"table", table}, {"floor", floor_of_job}, {"cut", cut_of_job},
-                  {"sweep", sweep}, {"exact", exact}};
+} operations[] = {{"image", image}, {"table", table}, {"shortest", shortest}, {"floor", floor_of_job},
+                  {"cut", cut_of_job}, {"sweep", sweep}, {"exact", exact}};
 
 static void run_line(void)
 {

@@ -52,6 +52,20 @@ def table(given):
     return answer | dict(working=changed(working, WIDE), list=changed(listed))
 
 
+def shortest(given):
+    """Which shortest list is shown is free: whether it overshoots is told, and its places are left out. The working
+    buffers are free after acceptance and 25, and are left out then."""
+    entries = given["entries"]
+    working, second = (lend(given, name, len(entries), WIDE) for name in ("working", "second"))
+    listed = lend(given, "list", max(0, len(entries) - 1))
+    number, length = wf.shortest(entries, working, second, listed)
+    right = number == wf.ACCEPTED and wf.shows(entries, listed[:length])
+    behind = {place: size for place, size in changed(listed).items() if place >= length}
+    kept = {} if number in (wf.ACCEPTED, wf.DUAL_FEASIBLE) else dict(
+        working=changed(working, WIDE), second=changed(second, WIDE))
+    return dict(number=number, length=length, right=int(right), list=behind) | kept
+
+
 def over_a_job(operation, given):
     """The working buffer is free afterwards, and is left out."""
     lent = {name: lend(given, name, least, WIDE if name == "working" else NARROW)
@@ -84,8 +98,8 @@ def text(given):
     return dict(status=0, errors=0, text=wf.program(given["job"]).decode())
 
 
-OPERATIONS = dict(image=image, table=table, floor=partial(over_a_job, "floor"), cut=partial(over_a_job, "cut"),
-                  sweep=sweep, exact=exact, text=text)
+OPERATIONS = dict(image=image, table=table, shortest=shortest, floor=partial(over_a_job, "floor"),
+                  cut=partial(over_a_job, "cut"), sweep=sweep, exact=exact, text=text)
 
 
 def answer(operation, given):

@@ -25,7 +25,7 @@ from jobs import TAKEN, called, refused_by_the_other
 from stored import FOLDER, Case, case_file, pack, read_file, read_list
 
 SHOWN = 5  # differences shown in full
-NEWEST = "exact", "floor", "cut"  # the operations that one release alone has stored
+NEWEST = "exact", "floor", "cut", "shortest"  # the operations that one release alone has stored
 
 
 class Question(NamedTuple):

@@ -6,7 +6,7 @@ never about what was answered or is answered now:
     Rule(request, operations, applies, why, fields=(), now=None)
 
     request     the number of the request that changes the answers
-    operations  the stored ones: of image, table, job, floor, cut, sweep, exact, text
+    operations  the stored ones: of image, table, shortest, job, floor, cut, sweep, exact, text
     applies     whether the rule is about an input: a function of what is given,
                 a dictionary with the names of the stored form
     why         the request's words, in a sentence

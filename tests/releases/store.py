@@ -1,10 +1,12 @@
-"""Stores a release: python3 tests/releases/store.py NAME
+"""Stores a release: python3 tests/releases/store.py NAME, where NAME is its version,
+as 5.1.0; before that it was request-1 to request-9.
 
 Makes the inputs of inputs_NAME.py, has today's library and program answer them,
 holds the answers to the independent implementation, and writes them to the
 folder NAME and to the list of releases. What is stored is never written again."""
 
 import importlib
+import re
 import sys
 from collections import Counter
 
@@ -12,6 +14,11 @@ sys.dont_write_bytecode = True
 import by_reference
 import today
 from stored import FOLDER, LIST, case_file, write_file
+
+
+def module_of(name):
+    """The module of a release's inputs: inputs_5_1_0, inputs_request_9."""
+    return "inputs_" + re.sub("[-.]", "_", name)
 
 
 def distinct(inputs):
@@ -40,7 +47,7 @@ def main(name):
     if (FOLDER / name).exists():
         print(f"{name} is stored already")
         return 1
-    made = importlib.import_module("inputs_" + name.replace("-", "_")).inputs()
+    made = importlib.import_module(module_of(name)).inputs()
     inputs = {operation: distinct(given) for operation, given in made.items()}
     stored = {operation: list(zip(given, today.answers(operation, given))) for operation, given in inputs.items()}
     if not all([agreed(operation, pairs) for operation, pairs in stored.items()]):

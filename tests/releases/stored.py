@@ -21,7 +21,7 @@ FOLDER = Path(__file__).resolve().parent
 LIST = "releases.txt"  # a line for each file of cases: release, operation, number of cases
 LISTS = ("entries", "sizes", "counts")
 BYTES = ("job",)
-BUFFERS = ("images", "working", "list", "scales", "blocks", "windows")
+BUFFERS = ("images", "working", "second", "list", "scales", "blocks", "windows")
 LEAST_RUN = 4  # shorter runs are written out
 
 

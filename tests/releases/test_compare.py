@@ -13,18 +13,21 @@ from unittest import mock
 
 sys.dont_write_bytecode = True
 import by_reference
+import store
 import today
 from by_reference import wf
-from compare import compare
+from compare import compare, rules_for
 from exceptions import BEFORE, EXCEPTIONS, Rule
 from inputs_base import IDENTITY, family, field, halves, head, image, job, row, tabled
 from inputs_request_1 import KIND_3, model
 from jobs import called, refused_by_the_other
-from stored import LIST, pack, pack_bytes, pack_numbers, unpack, unpack_bytes, unpack_numbers
+from stored import FOLDER, LIST, Case, pack, pack_bytes, pack_numbers, read_list, unpack, unpack_bytes, unpack_numbers
 
 LIMIT = wf.LIMIT
 IMAGE = "capacity=10 family=1 p=3 q=0 x=8 -> number=0 image=10 scale=10"
 TABLE = "entries=0,1,1,2 working_places=6 -> number=11 length=3 working=0:0,1,2,3 list=0:1,1,1"
+SHORTEST = "entries=0,1,2,3,4,4 list_places=7 -> number=0 length=2 right=1 list=same"
+SHORT_SECOND = "entries=0,1 second_places=1 -> number=7 length=0 right=0 list=same working=same second=same"
 JOB = ("job=01000101.0200040000000a.03000400000006 -> "
        "number=0 n=1 floor=1 sum=6 scale=10 step=0 length=0 images=0:6 list=same")
 ROWS = ("job=01000103.06000c0000000a0000000700000003.06000400000009 -> "
@@ -68,7 +71,8 @@ FLOOR = ("job=01000101.0200040000000a.03000c000000070000000600000003.08000400020
 CUT = ("job=01000103.06000c0000000a0000000700000003.06000400000009 -> "
        "number=0 n=2 scale=0 step=0 length=0 row=0 images=0:7,3 list=same scales=0:10,9")
 TEXT = "job= -> status=0 errors=0 text='refused 14 0\\n'"
-CASES = dict(image=IMAGE, table=TABLE, job=JOB, floor=FLOOR, cut=CUT, sweep=SWEEP, exact=EXACT, text=TEXT)
+CASES = dict(image=IMAGE, table=TABLE, shortest=SHORTEST, job=JOB, floor=FLOOR, cut=CUT, sweep=SWEEP, exact=EXACT,
+             text=TEXT)
 BAD_TABLES = tabled(1, 0, 1), tabled(0, 1, 0), tabled(0, 0, LIMIT + 1), tabled(0, 1, 1)  # 8 to 11, of capacity 2
 OF_FLOOR = job(1, 10, (3,)), job(4, 10, (3,)), job(1, 10, (11,)), b"\3\3\3", b"", b"\2\0\1\1"
 OF_CUT = job(2, 10, (3,)), model([(10, 3)]), KIND_3, job(2, 0, ()), b"\xff\0\1\2", b"\2\0\1\3"
@@ -120,7 +124,7 @@ class Comparison(unittest.TestCase):
         self.assert_fails(f"base/{operation}.txt, line 1: {field}", {operation: changed})
 
     def test_right_answers(self):
-        self.assert_passes("base: 8 cases compared", CASES)
+        self.assert_passes("base: 9 cases compared", CASES)
         self.assert_passes("base: 1 cases compared", dict(job=ROWS))
         self.assert_passes("base: 1 cases compared", dict(job=BLOCKS))
 
@@ -130,7 +134,10 @@ class Comparison(unittest.TestCase):
                 ("image", "scale=10", "scale=10 more=0", "more"), ("sweep", "p=5", "p=4", "p"),
                 ("table", "length=3", "length=2", "length"), ("table", "0:0,1,2,3", "0:0,1,2,4", "working"),
                 ("table", "0:0,1,2,3", "0:0,1,2,3,5", "working"), ("table", "0:1,1,1", "0:1,1", "list"),
-                ("table", "0:1,1,1", "same", "list"), ("job", "sum=6", "sum=7", "sum"),
+                ("table", "0:1,1,1", "same", "list"), ("shortest", "length=2", "length=3", "length"),
+                ("shortest", "number=0", "number=25", "number"), ("shortest", "right=1", "right=0", "right"),
+                ("shortest", "list=same", "list=6:1", "list"), ("shortest", "right=1", "right=1 second=same", "second"),
+                ("job", "sum=6", "sum=7", "sum"),
                 ("job", "images=0:6", "images=same", "images"), ("job", "list=same", "list=2046:1", "list"),
                 ("floor", "total=3", "total=2", "total"), ("floor", "row=0", "row=1", "row"),
                 ("floor", "blocks=0:2,1", "blocks=0:2,1;69:1", "blocks"), ("floor", "0:7,6,3", "same", "images"),
@@ -288,6 +295,39 @@ class Comparison(unittest.TestCase):
         self.assert_exact("number=7 fewest=0 fits=0 windows=same", "sizes= windows_places=9",
                           "sizes=6 windows_places=0")
         self.assert_exact("number=6 fewest=0 fits=0 windows=same", "sizes=6*2049", "sizes=6 counts=1,1")
+
+    def assert_shortest(self, answer, *tables):
+        """The library and both references give this answer for each table."""
+        for words in tables:
+            self.assert_passes("1 cases compared", dict(shortest=f"{words} -> {answer}"))
+
+    def test_shortest(self):
+        """Accepted, or with 25, only the places behind the list are compared; elsewhere every buffer."""
+        self.assert_shortest("number=0 length=1 right=1 list=same", "entries=0,2,1", "entries=0,0,2,1",
+                             "entries=0,2,1 working_places=9 second_places=8 list_places=7", "entries=0,0,9*2000,8")
+        self.assert_shortest("number=0 length=47 right=1 list=same", "entries=0,1,0*45,46", "entries=0,5,0*45,234")
+        self.assert_shortest("number=25 length=0 right=0 list=same", "entries=0,7", "entries=0,1,2",
+                             "entries=0,1,1,1,1,5 list_places=9", "entries=0+1*2048")
+        for number, *tables in ((6, "entries=", "entries=0", "entries=0*2049"),
+                                (7, "entries=0,1 working_places=1", "entries=0,1 second_places=1",
+                                 "entries=0,1,1 list_places=1", "entries=5,0 second_places=0"),
+                                (8, "entries=5,0"), (9, "entries=0,4000000001,0"), (10, "entries=0,4000000001,1")):
+            self.assert_shortest(f"number={number} length=0 right=0 list=same working=same second=same", *tables)
+
+    def test_which_shortest_list_is_free(self):
+        """But it overshoots, and it is no longer than another one."""
+        for found, names in (([1, 4], ""), ([4, 1], ""), ([2, 3], ""), ([1, 3], "right"), ([3, 3], "right"),
+                             ([5], "length, right"), ([1, 2, 2], "length"), ([1, 1, 1, 1, 1], "length")):
+            with mock.patch.object(wf, "shortest_list", lambda entries: found):
+                passed, printed = passes(dict(shortest=SHORTEST))
+            self.assertEqual(passed, names == "", printed)
+            self.assertIn(f"line 1: {names}\n" if names else "all as in", printed)
+
+    def test_shortest_lists_are_asked_of_the_references(self):
+        self.assert_asked("shortest", SHORTEST, [dict(length=3), dict(right=0), dict(number=25), dict(list={6: 1})],
+                          "shortest")
+        self.assert_asked("shortest", SHORT_SECOND, [dict(second={0: 5}), dict(working={1: 5}), dict(list={0: 5}),
+                                                     dict(number=25)], "shortest")
 
     def test_files(self):
         for operation, line in CASES.items():
@@ -644,6 +684,37 @@ class Exceptions(unittest.TestCase):
             self.assertTrue(self.excepted(9, "job", (data + bytes(65_536))[:65_535], **{other: 63}))
             for name, places in (("images", 2047), ("working", 2047), ("list", 2046)):
                 self.assertFalse(self.excepted(9, "job", data, **{other: 63, name + "_places": places}))
+
+
+class Releases(unittest.TestCase):
+    """Named by a request, and from 5.1.0 on by the version."""
+
+    def test_names(self):
+        for name, module in (("base", "inputs_base"), ("request-9", "inputs_request_9"), ("5.1.0", "inputs_5_1_0"),
+                             ("12.0.10", "inputs_12_0_10")):
+            self.assertEqual(store.module_of(name), module)
+
+    def test_inputs_of_every_release(self):
+        for release, operation, _ in read_list(FOLDER):
+            self.assertTrue((FOLDER / f"{store.module_of(release)}.py").is_file(), release)
+            self.assertIn(operation, CASES)
+
+    def test_a_version_can_be_compared(self):
+        passed, printed = passes(CASES, release="5.1.0")
+        self.assertTrue(passed, printed)
+        self.assertIn("5.1.0: 9 cases compared", printed)
+        passed, printed = passes(dict(shortest=SHORTEST.replace("length=2", "length=3")), release="5.1.0")
+        self.assertFalse(passed)
+        self.assertIn("5.1.0/shortest.txt, line 1: length\n", printed)
+
+    def test_rules_of_requests(self):
+        """They are about no release that is listed behind the request's own, whatever it is called."""
+        releases = ["base", "request-1", "request-2", "request-9", "5.1.0", "5.2.0"]
+        rules = [Rule(request, ("image",), always, "all") for request in (1, 2, 9)]
+        for release, about in (("base", [1, 2, 9]), ("request-1", [2, 9]), ("request-2", [9]), ("request-9", []),
+                               ("5.1.0", []), ("5.2.0", [])):
+            case = Case(release, "image", 1, image(10, 1, 3, 0, 8), {})
+            self.assertEqual([rule.request for _, rule in rules_for(case, rules, releases)], about)
 
 
 class StoredForm(unittest.TestCase):

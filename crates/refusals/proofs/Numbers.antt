@@ -4,7 +4,7 @@ use denote.Enum.Declared.{tag_of}
 use Rattle.refusals.specs.contracts.Refusal.{the_type}
 use Rattle.refusals.specs.Number.{number_of}
 use Rattle.refusals.specs.declared.Refusal.{Refusal}
-use Rattle.refusals.specs.declared.Refusal.TheVariants.{Capacity, Family, Parameters, ScaleOverLimit, SizeOverCapacity, ListLength, BufferTooShort, FirstEntry, LastEntry, EntryOverLimit, Overshoots, JobTooLong, FieldPastEnd, TagOutOfPlace, FieldLength, JobKind, Size, TableCapacity, ParameterRange, NoParameterPasses, RowCount, Count, Blocks, TooManyCopies}
+use Rattle.refusals.specs.declared.Refusal.TheVariants.{Capacity, Family, Parameters, ScaleOverLimit, SizeOverCapacity, ListLength, BufferTooShort, FirstEntry, LastEntry, EntryOverLimit, Overshoots, JobTooLong, FieldPastEnd, TagOutOfPlace, FieldLength, JobKind, Size, TableCapacity, ParameterRange, NoParameterPasses, RowCount, Count, Blocks, TooManyCopies, NoneOvershoots}
 
 -- the discriminant, which is one more than the variant's place, is its number
 pub number_is : (refusal : Refusal) → tag_of the_type refusal + 1 ≡ number_of refusal
@@ -32,6 +32,7 @@ number_is RowCount = refl
 number_is Count = refl
 number_is Blocks = refl
 number_is TooManyCopies = refl
+number_is NoneOvershoots = refl
 
 pub number_positive : (refusal : Refusal) → 1 ≤ number_of refusal
 number_positive refusal = omega (arith, number_is refusal)

@@ -1,7 +1,7 @@
 -- The numbers of refusal of documents 01 and 02.
 use Rattle.std.specs.Prelude.{ℕ, Result, Ok, Err}
 use Rattle.refusals.specs.declared.Refusal.{Refusal}
-use Rattle.refusals.specs.declared.Refusal.TheVariants.{Capacity, Family, Parameters, ScaleOverLimit, SizeOverCapacity, ListLength, BufferTooShort, FirstEntry, LastEntry, EntryOverLimit, Overshoots, JobTooLong, FieldPastEnd, TagOutOfPlace, FieldLength, JobKind, Size, TableCapacity, ParameterRange, NoParameterPasses, RowCount, Count, Blocks, TooManyCopies}
+use Rattle.refusals.specs.declared.Refusal.TheVariants.{Capacity, Family, Parameters, ScaleOverLimit, SizeOverCapacity, ListLength, BufferTooShort, FirstEntry, LastEntry, EntryOverLimit, Overshoots, JobTooLong, FieldPastEnd, TagOutOfPlace, FieldLength, JobKind, Size, TableCapacity, ParameterRange, NoParameterPasses, RowCount, Count, Blocks, TooManyCopies, NoneOvershoots}
 
 abbrev pub number_of : Refusal → ℕ
 number_of Capacity = 1
@@ -28,6 +28,7 @@ number_of RowCount = 21
 number_of Count = 22
 number_of Blocks = 23
 number_of TooManyCopies = 24
+number_of NoneOvershoots = 25
 
 -- 0 where nothing is refused
 abbrev pub number_in : {A : Type 0} → Result A Refusal → ℕ

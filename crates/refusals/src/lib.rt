@@ -34,6 +34,8 @@ pub enum Refusal {
     Count = 22,
     Blocks = 23,
     TooManyCopies = 24,
+    // No list of sizes does what `Overshoots` says: the table is dual-feasible.
+    NoneOvershoots = 25,
 }
 
 impl From<Refusal> for u64 {

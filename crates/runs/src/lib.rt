@@ -1,6 +1,7 @@
-// Lists in a text, as the case programs read them: n k and k runs, in decimal. The list has n places. A run is a
-// count of places and the numbers that say what they hold; those of the next run come behind them, and what does
-// not fit is ignored.
+// Lists and tables in a text, as the case programs read them, in decimal. A list is n k and k runs, and has n
+// places. A run is a count of places and the numbers that say what they hold; those of the next run come behind
+// them, and what does not fit is ignored. A table is s k and k pairs: entry i is i * s, or the value of the last pair
+// (i, value), and a pair with another place is ignored.
 #![tactic(auto)]
 
 ghost use Rattle.std.specs.Prelude.{◌≡◌, ◌≤◌, ◌<◌, length, min};
@@ -9,7 +10,7 @@ ghost use Rattle.runs.specs.Forward.{ReadsForward};
 
 use decimal::Numbers;
 
-// The most numbers of a list, more than one of sizes may have.
+// The most numbers of a list, more than one of sizes may have, and the most pairs of a table.
 pub const MOST_NUMBERS: usize = 2_100;
 
 // Reads so many runs and has the numbers behind each count put into its places.
@@ -69,6 +70,20 @@ pub fn put_list<'a, T, F: Fn(&mut [T], u32, u32)>(
     })
 }
 
+// Reads a table into all places of a buffer.
+pub fn put_table(numbers: &mut Numbers<'_>, table: &mut [u32])
+    ensures { length numbers.new ≤ length numbers.old }
+{
+    let [s, k] = numbers.next_numbers::<2>();
+    buffers::fill(table, 0, buffers::low_bits(s));
+    for _ in 0..buffers::at_most(k, MOST_NUMBERS) {
+        let [place, value] = numbers.next_numbers::<2>();
+        if let Some(entry) = table.get_mut(place as usize) {
+            *entry = buffers::low_bits(value);
+        }
+    }
+}
+
 #[cfg(test)]
 mod tests {
     use super::*;
@@ -93,5 +108,14 @@ mod tests {
             run.fill(buffers::low_byte(numbers.next_number()));
         });
         assert_eq!(rt; &*bytes, b"AA\0".as_slice());
+    }
+
+    #[test]
+    fn reads_a_table(rt: HostRuntime) {
+        let mut numbers = Numbers::new(b"3 4 1 7 1 5 9 8 3 1 6");
+        let mut table = [9u32; 4];
+        put_table(&mut numbers, &mut table);
+        assert_eq!(rt; table, [0, 5, 6, 1]);
+        assert_eq!(rt; numbers.next_number(), 6);
     }
 }

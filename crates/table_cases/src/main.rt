@@ -4,7 +4,6 @@
 // Writes a line for each answer: number, length, a checksum of each buffer, and the list.
 #![tactic(auto)]
 
-ghost use Rattle.std.specs.Prelude.{◌≤◌, length};
 ghost use Rattle.cases.specs.Onward.{PassesSome};
 
 use decimal::Numbers;
@@ -13,25 +12,11 @@ use std::io::{self, Write};
 // The most bytes of standard input that are read.
 const MOST_BYTES: usize = 65_536;
 
-// The most entries of a case, one more than a table may have, and the most pairs.
+// The most entries of a case, one more than a table may have.
 const MOST_ENTRIES: usize = tables::MOST_ENTRIES + 1;
 
 // The most places of a buffer.
 const MOST_PLACES: usize = 2_100;
-
-// Makes the table of s, k and the pairs.
-fn make_table(numbers: &mut Numbers<'_>, table: &mut [u32])
-    ensures { length numbers.new ≤ length numbers.old }
-{
-    let [s, k] = numbers.next_numbers::<2>();
-    buffers::fill(table, 0, buffers::low_bits(s));
-    for _ in 0..buffers::at_most(k, MOST_ENTRIES) {
-        let [place, value] = numbers.next_numbers::<2>();
-        if let Some(entry) = table.get_mut(place as usize) {
-            *entry = buffers::low_bits(value);
-        }
-    }
-}
 
 fn check_table<W: Write>(
     out: &mut W,
@@ -64,7 +49,7 @@ fn run_case<W: Write>(out: &mut W, numbers: &mut Numbers<'_>) -> io::Result<()>
     let table = buffers::front(&mut table, n);
     let working = buffers::front(&mut working, w);
     let list = buffers::front(&mut list, l);
-    make_table(numbers, table);
+    runs::put_table(numbers, table);
     check_table(out, table, working, list)
 }
 

@@ -189,7 +189,7 @@ module _ (t : List ℕ) where
                 omega (arith, f.reaches, entry_most f.size f.positive f.listed, pairs (c - f.size) (omega arith) (omega arith), ap (best t) back)
 
     -- entries within the limit keep the totals small
-    total_most : (xs : List ℕ) → total (map (entry t) xs) ≤ limit * total xs
+    pub total_most : (xs : List ℕ) → total (map (entry t) xs) ≤ limit * total xs
     unfolding total
     total_most [] = zero-le
     total_most (x ∷ xs) = ⊎_elim nothing some (eq-zero-or-pos x) (total_most xs)

@@ -11,6 +11,7 @@ use Rattle.functions.proofs.Pasted.{pasted}
 use Rattle.tables.specs.Table.{best, bests, all_bests, table_capacity}
 use Rattle.tables.specs.Check.{TableForm, at_front}
 use Rattle.tables.specs.Working.{AreBests}
+use Rattle.tables.proofs.Entries.{capacity_is}
 use Rattle.tables.proofs.Best.{best_zero, bests_length}
 use Rattle.tables.proofs.Buffers.{pasted_write, pasted_whole}
 
@@ -70,6 +71,11 @@ module _ (t : List ℕ) where
     unfolding at_front
     all_bests_at old working is j l =
         ap (λ (xs : List ℕ). get_or xs j 0) is ∙ get_or-append (all_bests t) (drop (length (all_bests t)) old) 0 j (omega (arith, all_length)) ∙ all_at j l
+
+    -- its last place is compared with the scale
+    pub last_best : (old working : List ℕ) → working ≡ at_front (all_bests t) old → get_or working (length t - 1) 0 ≡ best t (table_capacity t)
+    last_best old working is =
+        all_bests_at old working is (length t - 1) (omega (arith, form.least)) ∙ ap (best t) (sym (capacity_is t))
 
 -- the first c places are written, and the others are as they were
 pub record Filled (t old working : List ℕ) (c : ℕ) : Type 0 where

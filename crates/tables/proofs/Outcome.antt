@@ -15,9 +15,15 @@ use Rattle.tables.specs.Check.{TableForm, entries_refusal, length_refusal, shape
 use Rattle.tables.specs.Working.{AreBests}
 use Rattle.tables.specs.Promise.{Overshoots, AcceptedExactly}
 use Rattle.tables.specs.declared.TableAnswer.{TableAnswer}
-use Rattle.tables.proofs.Entries.{capacity_is, scale_is_last, passed, shape_below}
-use Rattle.tables.proofs.Filled.{all_bests_lem, all_bests_at}
+use Rattle.tables.proofs.Entries.{scale_is_last, passed, shape_below}
+use Rattle.tables.proofs.Filled.{all_bests_lem, last_best}
 use Rattle.tables.proofs.Promise.{counterexample_promise, table_promise}
+
+-- what refusals 6 to 10 leave is refused with 11 or accepted
+pub by_shape : (t : List ℕ) (working list : ℕ) → table_refusal t working list ≡ cond (eqb (shape_refusal t working list) 0) (cond (ltb (table_scale t) (best t (table_capacity t))) 11 0) (shape_refusal t working list)
+unfolding table_refusal entries_refusal shape_refusal
+by_shape t working list =
+    ⊎_elim (λ e. rw e) (λ some. simp (ne_eqb (length_refusal (length t) working list) 0 (omega arith))) (eq-zero-or-pos (length_refusal (length t) working list))
 
 module _ (t w l : List ℕ) where
   -- the check's three claims, of what it tells and the two buffers
@@ -57,16 +63,11 @@ module _ (t w l : List ℕ) where
         exactly = rw e (table_promise t (length w) (length l)).accepted_exactly;
       }
 
-  by_shape : table_refusal t (length w) (length l) ≡ cond (eqb (shape_refusal t (length w) (length l)) 0) (cond (ltb (table_scale t) (best t (table_capacity t))) 11 0) (shape_refusal t (length w) (length l))
-  unfolding table_refusal entries_refusal shape_refusal
-  by_shape =
-      ⊎_elim (λ e. rw e) (λ some. simp (ne_eqb (length_refusal (length t) (length w) (length l)) 0 (omega arith))) (eq-zero-or-pos (length_refusal (length t) (length w) (length l)))
-
   -- refused by 6 to 10: nothing is written
   pub refused : (n : ℕ) → n ≡ shape_refusal t (length w) (length l) → 1 ≤ n → Outcome (record { number = n; length = 0 }) w l
   unfolding table_answer working_after list_after
   refused n is some =
-      let e : table_refusal t (length w) (length l) ≡ n = by_shape ∙ rw (← is, ne_eqb n 0 (omega arith)) in
+      let e : table_refusal t (length w) (length l) ≡ n = by_shape t (length w) (length l) ∙ rw (← is, ne_eqb n 0 (omega arith)) in
       let other = ne_eqb n 11 (omega (arith, is, shape_below t (length w) (length l))) in
       record {
         told = rw (e, other);
@@ -81,21 +82,17 @@ module _ (t w l : List ℕ) where
     pub all_known : AreBests t (take (length t) w')
     all_known = all_bests_lem t form w w' filled
 
-    last_best : get_or w' (length t - 1) 0 ≡ best t (table_capacity t)
-    last_best =
-        all_bests_at t form w w' filled (length t - 1) (omega (arith, form.least)) ∙ ap (best t) (sym (capacity_is t))
-
     pub ends_accepted : get_or w' (length t - 1) 0 ≤ get_or t (length t - 1) 0 → Outcome (record { number = 0; length = 0 }) w' l
     unfolding table_answer working_after list_after
     ends_accepted fits =
-        let e : table_refusal t (length w) (length l) ≡ 0 = by_shape ∙ rw (shape, le-ltb (table_scale t) (best t (table_capacity t)) (omega (arith, last_best, scale_is_last t))) in
+        let e : table_refusal t (length w) (length l) ≡ 0 = by_shape t (length w) (length l) ∙ rw (shape, le-ltb (table_scale t) (best t (table_capacity t)) (omega (arith, last_best t form w w' filled, scale_is_last t))) in
         record { told = rw e; working = filled ∙ rw e; list = rw e }
 
     pub ends_refuted : (n : ℕ) (l' : List ℕ) → get_or t (length t - 1) 0 < get_or w' (length t - 1) 0 → n ≡ length (counterexample t) → l' ≡ at_front (counterexample t) l → Outcome (record { number = 11; length = n }) w' l'
     unfolding table_answer working_after list_after
     ends_refuted n l' over count written =
-        let more : table_scale t < best t (table_capacity t) = omega (arith, last_best, scale_is_last t) in
-        let e : table_refusal t (length w) (length l) ≡ 11 = by_shape ∙ rw (shape, lt-ltb (table_scale t) (best t (table_capacity t)) more) in
+        let more : table_scale t < best t (table_capacity t) = omega (arith, last_best t form w w' filled, scale_is_last t) in
+        let e : table_refusal t (length w) (length l) ≡ 11 = by_shape t (length w) (length l) ∙ rw (shape, lt-ltb (table_scale t) (best t (table_capacity t)) more) in
         record { told = rw (e, count); working = filled ∙ rw e; list = written ∙ rw e }
 
 -- longer buffers change no refusal

@@ -5,8 +5,9 @@ ghost use Rattle.tables.specs.Check.{TableForm, at_front};
 
 use crate::bests::Bests;
 
+// Writes best 0 to best C over the first places of the buffer; the others stay.
 #[tactic(auto, using(crate::proofs::Filled::filled_bests))]
-pub(crate) fn fill_bests(table: &[u32], working: &mut [u64])
+pub fn fill_bests(table: &[u32], working: &mut [u64])
     requires table_form { TableForm table.now }
     requires table_in_bounds { length table.now ≤ length working.old }
     ensures { working.new ≡ at_front (all_bests table.now) working.old }

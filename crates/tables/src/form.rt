@@ -46,7 +46,7 @@ fn refuse_form(table: &[u32]) -> Result<(), Refusal>
 }
 
 // Refusals 6 to 10, of a table and the lengths of its buffers.
-pub(crate) fn check_form(table: &[u32], working: usize, list: usize) -> Result<(), Refusal>
+pub fn check_form(table: &[u32], working: usize, list: usize) -> Result<(), Refusal>
     ensures number { number_in result ≡ shape_refusal table.now working list }
     ensures passed { OnOk result (Passed table.now working list) }
 {

@@ -12,6 +12,8 @@ ghost use Rattle.tables.specs.Told.{told};
 ghost use Rattle.tables.specs.Promise.{Overshoots, AcceptedExactly};
 
 use bests::Bests;
+pub use fill::fill_bests;
+pub use form::check_form;
 use refusals::Refusal;
 
 // The most entries of a table.

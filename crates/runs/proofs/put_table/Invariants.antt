@@ -1,6 +1,6 @@
--- `make_table` meets its contract: the text that is left never grows.
+-- `put_table` meets its contract: the text that is left never grows.
 use Rattle.std.proofs.Common.{◌≤◌, length}
-use Rattle.table_cases.proofs.make_table.Given as goal
+use Rattle.runs.proofs.put_table.Given as goal
 
 abbrev pub invariant-loop : goal.invariant-loop
 invariant-loop l = length l.numbers ≤ length l.initial.numbers

@@ -1,0 +1,4 @@
+pub mod Shortest
+pub mod Told
+pub mod Rows
+pub mod Halves
