@@ -1,10 +1,9 @@
-/* The seven operations once more, with no thought of speed, to be compared with the library: six written from the
- * scope document and the requests alone, the shortest list from docs/REFERENCE.md. A job is read by a machine that
- * takes byte for byte; the library and the implementation in Python go from field to field. Each row is judged in
- * full, its tables too; the library checks a table once. The fewest windows are found by adding a copy to the last
- * window; the implementation in Python takes a window away. A shortest list is found breadth first, by the
- * capacity that a list uses in full; the library has the greatest totals within each capacity, and looks for
- * the two halves of the list. */
+/* The seven operations once more, with no thought of speed and by other ways than the library's, to be compared with
+ * it. A job is read by a machine that takes byte for byte; the library and the implementation in Python go from
+ * field to field. Each row is judged in full, its tables too; the library checks a table once. The fewest windows
+ * are found by adding a copy to the last window; the implementation in Python takes a window away. A shortest list
+ * is found breadth first, by the capacity that a list uses in full; the library has the greatest totals within each
+ * capacity, and looks for the two halves of the list. */
 #ifndef REFERENCE_H
 #define REFERENCE_H
 

@@ -1,6 +1,6 @@
 -- Rows while they are filled: the invariants of the loops.
 use Rattle.std.proofs.lemmas.Bool.{cases_lt}
-use Rattle.std.proofs.lemmas.List.{get_or-set_same, get_or-set_other}
+use Rattle.std.proofs.lemmas.List.{get_or-set_same, get_or-set_other, get_or-replicate}
 use Rattle.std.proofs.Math.Nat.{suc-mul, mul-le-mul_left, le-div_iff_mul-le, mul_comm}
 use mathlib.Core.Path.{◌≡◌, refl, ap, ◌∙◌}
 use mathlib.Core.List.{List}
@@ -182,16 +182,11 @@ module _ {t : List ℕ} {k : ℕ} {fewer : List ℕ} (some : 1 ≤ k) (before : 
             (bounding_more form (k - 1) c (get_or row c 0) (λ b. get_or fewer b 0) (λ b m. (before.holds b (omega (arith, s.same))).most) (s.kept c l)
             (λ y pos low. let under : k * y ≤ c = omega (arith, ap (λ (n : ℕ). n * y) one_more) in s.offered y c pos (seen y c under l) under l))
 
-zeros_are : (n i : ℕ) → get_or {A = ℕ} (replicate n 0) i 0 ≡ 0
-zeros_are zero i = refl
-zeros_are (suc n) zero = refl
-zeros_are (suc n) (suc i) = zeros_are n i
-
 pub first_rows_end : {t old fewer row row' : List ℕ} {c top : ℕ} → Room t old row → FirstRow t row' c top → fewer ≡ replicate (length old) 0 → length row' ≡ length row → length row ≤ c → length fewer ≡ length old → Rows t 1 fewer row'
 first_rows_end {t} {old} {fewer} r f is same all count =
     record {
       room = record { form = r.form; some = omega (arith, r.some); in_table = omega (arith, r.in_table); same = omega (arith, r.same) };
-      fewer_is = record { holds = λ c l. rw (is, zeros_are (length old) c) (greatest_of_none c) };
+      fewer_is = record { holds = λ c l. rw (is, get_or-replicate {A = ℕ} (length old) c 0 0 (omega arith)) (greatest_of_none c) };
       row_is = record { holds = λ c l. f.written c (omega arith) };
     }
 

@@ -17,10 +17,6 @@ module _ (t : List ℕ) where
   pub image_total_append : (xs ys : List ℕ) → image_total t (xs ++ ys) ≡ image_total t xs + image_total t ys
   image_total_append xs ys = ap total (map-append (entry t) xs ys) ∙ total_append (map (entry t) xs) (map (entry t) ys)
 
-  pub image_total_one : (x : ℕ) → image_total t (x ∷ []) ≡ entry t x
-  unfolding total
-  image_total_one x = omega arith
-
   -- a list cut in two
   pub cut_total : (j : ℕ) (xs : List ℕ) → total (take j xs) + total (drop j xs) ≡ total xs
   cut_total j xs = sym (total_append (take j xs) (drop j xs)) ∙ ap total (take-append-drop j xs)

@@ -10,6 +10,7 @@ use Rattle.functions.specs.Words.{total}
 use Rattle.tables.specs.Table.{entry}
 use Rattle.shortest.specs.Rows.{image_total, GreatestEntry}
 use Rattle.shortest.specs.Halves.{GreatestList}
+use Rattle.shortest.proofs.Greatest.{none_most}
 
 pub greatest_start : (t : List ℕ) → GreatestEntry t 1 0
 greatest_start t = record { in_row = omega arith; most = λ y l. let here : y ≡ 0 = omega arith in omega (arith, ap (entry t) here) }
@@ -30,11 +31,7 @@ module _ {t : List ℕ} {y size : ℕ} (g : GreatestEntry t y size) where
 module _ (t : List ℕ) (c : ℕ) where
   pub greatest_none : GreatestList t c []
   unfolding total
-  greatest_none = record { fits = zero-le; most = record { bounds = none } }
-    where
-      none : (xs : List ℕ) → length xs ≤ 0 → total xs ≤ c → image_total t xs ≤ 0
-      none [] few fits = zero-le
-      none (x ∷ xs) few fits = absurd (omega arith)
+  greatest_none = record { fits = zero-le; most = record { bounds = none_most t c } }
 
   pub greatest_one : (places size : ℕ) → GreatestEntry t places size → c ≡ places - 1 → 1 ≤ places → GreatestList t c (size ∷ [])
   unfolding total
