@@ -1,7 +1,8 @@
 """Holds the values that docs/REFERENCE.md shows to the independent
 implementation, its names and numbers to that and to the C header, and
 docs/PROMISES.md to the must-fail edits and to the sections of
-docs/REFERENCE.md, and the exports to the operations that they call."""
+docs/REFERENCE.md, the exports to the operations that they call, and the
+job layer's proofs to the promises of the crates below them."""
 
 import pathlib
 import re
@@ -285,6 +286,40 @@ class Promises(unittest.TestCase):
         self.assertLessEqual(led_from, headings)
         self.assertLessEqual({"2.%d" % k for k in range(1, 9)} | {"5.%d" % k for k in range(2, 8)},
                              led_from)
+
+
+JOB_LAYER = "fields chains blocks jobs floors cuts lists sweeps exact".split()
+
+
+def defined(crates):
+    """The names of the definitions that a proof can unfold, of the specs of some crates."""
+    texts = [path.read_text(encoding="utf-8") for crate in crates for path in ROOT.glob(f"crates/{crate}/specs/*.antt")]
+    return {name for text in texts for name in re.findall(r"^\s*(?:unfoldable|abbrev) pub (\S+) ", text, re.M)}
+
+
+def unfolded(crate):
+    """The names that the proofs of a crate unfold, and the attributes of its functions."""
+    names = set()
+    for path in (ROOT / "crates" / crate).rglob("*.antt"):
+        if "proofs" in path.parts:
+            for line in re.findall(r"^\s*unfolding (.*)$", path.read_text(encoding="utf-8"), re.M):
+                names |= set(line.split())
+    for path in (ROOT / "crates" / crate).glob("src/*.rt"):
+        for inner in re.findall(r"\bunfolding\(([^)]*)\)", path.read_text(encoding="utf-8")):
+            names |= {place.strip().split("::")[-1] for place in inner.split(",")}
+    return names
+
+
+class Layers(unittest.TestCase):
+
+    def test_unfolded(self):
+        """The job layer rests on what `functions` and `tables` promise: its proofs unfold no definition of the two."""
+        below = defined(["functions", "tables"]) - defined(JOB_LAYER)
+        self.assertIn("total", below)
+        for crate in JOB_LAYER:
+            names = unfolded(crate)
+            self.assertTrue(names, crate)
+            self.assertEqual(names & below, set(), crate)
 
 
 def operation(crate):

@@ -24,7 +24,7 @@ use Rattle.blocks.specs.Sums.{sum_up, Counted, counts_of}
 use Rattle.blocks.proofs.Dividing.{divide_count, block_at, divide_more}
 
 -- one number more
-total_next : (numbers : List ℕ) (i : ℕ) → i < length numbers → total (take (suc i) numbers) ≡ total (take i numbers) + get_or numbers i 0
+pub total_next : (numbers : List ℕ) (i : ℕ) → i < length numbers → total (take (suc i) numbers) ≡ total (take i numbers) + get_or numbers i 0
 total_next numbers i l =
     ap total (take-suc numbers i 0 l)
     ∙ total_append (take i numbers) (get_or numbers i 0 ∷ [])

@@ -1,10 +1,10 @@
 -- A list cut into blocks: one block more, images in the place of sizes, and what 23 leaves.
 use mathlib.Core.Path.{◌≡◌, refl, ap, ◌∙◌}
-use mathlib.Core.Bool.{true, ◌&&◌, and-eq-true_iff}
+use mathlib.Core.Bool.{true, false, ◌&&◌, and-eq-true_iff}
 use mathlib.Core.List.{List, [], ◌∷◌, ◌++◌, map}
-use Prim.Native.Nat.{ℕ, suc, ◌+◌, ◌≤◌}
+use Prim.Native.Nat.{ℕ, suc, ◌+◌, ◌≤◌, ◌<◌}
 use native.Mathlib.Omega.{arith}
-use borrow.Author.Tests.{eqb-true, leb-true}
+use borrow.Author.Tests.{eqb-true, leb-true, le-leb, lt-leb}
 use lib.Dec.{leb, eqb}
 use lib.ListN.{length, take, drop, length-drop}
 use lib.Seq.{drop-drop}
@@ -33,6 +33,21 @@ fit numbers n e =
       few = leb-true (length numbers) most_blocks ((and-eq-true_iff (leb (length numbers) most_blocks) (each (leb 1) numbers)).0 both.0).0;
       add_up = eqb-true (total numbers) n both.1;
     }
+
+-- the tests one after the other
+module _ (numbers : List ℕ) (n : ℕ) where
+  pub too_many : most_blocks < length numbers → blocks_fit numbers n ≡ false
+  unfolding blocks_fit
+  too_many over = rw (lt-leb (length numbers) most_blocks over)
+
+  module _ (few : length numbers ≤ most_blocks) where
+    pub an_empty_one : each (leb 1) numbers ≡ false → blocks_fit numbers n ≡ false
+    unfolding blocks_fit
+    an_empty_one e = rw (le-leb (length numbers) most_blocks few, e)
+
+    pub none_empty : each (leb 1) numbers ≡ true → blocks_fit numbers n ≡ eqb (total numbers) n
+    unfolding blocks_fit
+    none_empty e = rw (le-leb (length numbers) most_blocks few, e)
 
 -- as many blocks as numbers
 pub divide_count : (numbers counts sizes : List ℕ) → length (divide numbers counts sizes) ≡ length numbers

@@ -62,6 +62,18 @@ pub fn fill_halves(places: &mut [u16], first: u32, step: u32)
     fill_by(places, first, step, |value| (value % 65_536) as u16)
 }
 
+// Place i becomes number i, mod 2^16, as far as there are numbers.
+pub fn put_halves(places: &mut [u16], numbers: &[u32])
+    ensures { EachIndex places.new (λ i. i < length numbers.now → slice_index places.new i ≡ slice_index numbers.now i % 65536) }
+{
+    for (i, place) in places.iter_mut().enumerate() {
+        if numbers.len() <= i {
+            return;
+        }
+        *place = (numbers[i] % 65_536) as u16;
+    }
+}
+
 // Place i becomes 7,000,000,000 + i.
 pub fn fill_working(working: &mut [u64])
     ensures { EachIndex working.new (λ i. slice_index working.new i ≡ 7000000000 + i) }
@@ -116,6 +128,8 @@ mod tests {
         let mut halves = [0u16; 2];
         fill_halves(&mut halves, 70_000, 1);
         assert_eq!(rt; halves, [4_464, 4_465]);
+        put_halves(&mut halves, &[70_001]);
+        assert_eq!(rt; halves, [4_465, 4_465]);
         let mut working = [0u64; 2];
         fill_working(&mut working);
         assert_eq!(rt; working, [7_000_000_000, 7_000_000_001]);

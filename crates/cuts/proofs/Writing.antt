@@ -63,7 +63,7 @@ images_more S [] r = append-nil (row_images S r)
 images_more S (g ∷ rows) r = ap (λ (l : List ℕ). row_images S g ++ l) (images_more S rows r) ∙ sym (append_assoc (row_images S g) (rows_images S rows) (row_images S r))
 
 -- the coefficients of the first rows
-counts_first : (rows : List Row) (k : ℕ) → coefficient_count (take k rows) ≤ coefficient_count rows
+pub counts_first : (rows : List Row) (k : ℕ) → coefficient_count (take k rows) ≤ coefficient_count rows
 unfolding coefficient_count
 counts_first [] zero = omega arith
 counts_first [] (suc k) = omega arith

@@ -7,7 +7,7 @@ ghost use Rattle.decimal.specs.Reading.{with_digit, number, behind, behind_all, 
 use std::marker::Model;
 
 // What is left of a text, from which numbers are read.
-#[derive(Drop)]
+#[derive(Clone, Drop)]
 pub struct Numbers<'a> {
     text: &'a [u8],
 }

@@ -13,7 +13,7 @@ use Rattle.lists.specs.Counted.{counted_refusal, CountedList}
 use Rattle.lists.proofs.Passed.{counted}
 use Rattle.jobs.specs.Packing.{copies}
 use Rattle.jobs.proofs.Promise.{chain_is_safe}
-use Rattle.exact.specs.Exact.{most_copies, exact_refusal, FewestWritten, ExactAnswered}
+use Rattle.exact.specs.Exact.{most_copies, exact_refusal, FewestWritten, ExactAnswered, refused_exact}
 use Rattle.exact.specs.Expand.{Searchable}
 use Rattle.exact.proofs.Expanding.{copies_count, copies_within}
 
@@ -41,6 +41,9 @@ module _ (c : ℕ) (sizes counts : List ℕ) where
       }
 
   module _ (windows : List ℕ) where
+    pub exact_refused : (exact_refusal c sizes counts (length windows) ≡ 0 → ⊥) → ExactAnswered c sizes counts windows (refused_exact (exact_refusal c sizes counts (length windows))) windows
+    exact_refused some = record { accepted = λ none. absurd (some none); refused = λ _. record { answer_is = refl; all_stay = refl } }
+
     module _ (fine : ExactFine c sizes counts (length windows)) where
       abbrev all : List ℕ
       all = copies counts sizes

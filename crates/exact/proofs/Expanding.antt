@@ -19,9 +19,8 @@ use Rattle.exact.specs.Expand.{Expanded}
 
 -- the definition's sum is the library's
 pub total_is_sum : (xs : List ℕ) → total xs ≡ sum_by (λ x. x) xs
-unfolding total
-total_is_sum [] = refl
-total_is_sum (x ∷ xs) = ap (λ (rest : ℕ). x + rest) (total_is_sum xs) ∙ sym (sum_by-cons (λ n. n) x xs)
+total_is_sum [] = total_none
+total_is_sum (x ∷ xs) = total_cons x xs ∙ ap (λ (rest : ℕ). x + rest) (total_is_sum xs) ∙ sym (sum_by-cons (λ n. n) x xs)
 
 total_at : (xs : List ℕ) (i : ℕ) → i < length xs → total (take (i + 1) xs) ≡ total (take i xs) + get_or xs i 0
 total_at xs i l = rw (total_is_sum (take (i + 1) xs), total_is_sum (take i xs)) (sum_by_more (λ n. n) xs i 0 l)

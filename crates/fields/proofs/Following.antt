@@ -9,7 +9,7 @@ use native.Mathlib.Omega.{arith}
 use borrow.Author.Tests.{eqb-true, ltb-true, eq-eqb, ne_eqb, not-false}
 use lib.Dec.{ltb, eqb}
 use Rattle.functions.proofs.Cases.{not_refused}
-use Rattle.std.specs.Prelude.{None, Some}
+use Rattle.std.specs.Prelude.{Option, None, Some}
 use Rattle.fields.specs.Bytes.{field_tag, field_length, field_within, header_of}
 use Rattle.fields.specs.Parts.{Field, value_of, blocks_there, is_step, step_of, chosen, job_steps, row_of, is_row, job_rows, last_tag_from, last_tag}
 use Rattle.fields.specs.Grammar.{most_steps, floor_kind, rows_kind, step_follows, row_follows, counts_follow, blocks_follow, may_follow, length_right}
@@ -92,6 +92,25 @@ module _ (f : Field) where
   pub last_more : (fields : List Field) → last_tag (fields ++ (f ∷ [])) ≡ f.tag
   unfolding last_tag
   last_more fields = last_from 0 fields
+
+-- a field's refusals in order: 13 whatever the tag and the length are, 14 whatever the length is
+pub thirteen : (h : Option Header) (kind last steps sizes : ℕ) → h ≡ None → header_refusal h kind last steps sizes ≡ 13
+unfolding header_refusal
+thirteen h kind last steps sizes past_the_end = rw past_the_end
+
+module _ (h : Header) (kind last steps sizes : ℕ) where
+  pub fourteen : may_follow kind last steps h.tag ≡ false → header_refusal (Some h) kind last steps sizes ≡ 14
+  unfolding header_refusal
+  fourteen out-of-place = rw out-of-place
+
+  module _ (in_place : may_follow kind last steps h.tag ≡ true) where
+    pub fifteen : length_right sizes h.tag h.length ≡ false → header_refusal (Some h) kind last steps sizes ≡ 15
+    unfolding header_refusal
+    fifteen wrong = rw (in_place, wrong)
+
+    pub fine_field : length_right sizes h.tag h.length ≡ true → header_refusal (Some h) kind last steps sizes ≡ 0
+    unfolding header_refusal
+    fine_field right = rw (in_place, right)
 
 -- the first field of a rest, which is not refused
 pub record Passed (rest : List ℕ) (kind last steps sizes : ℕ) : Type 0 where

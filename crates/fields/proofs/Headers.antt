@@ -4,9 +4,9 @@ use mathlib.Core.Bool.{Bool, true, false, cond, and-eq-true_iff}
 use mathlib.Core.List.{List, []}
 use Rattle.std.specs.Prelude.{Option, None, Some, Ok}
 use Rattle.fields.specs.Record.{TagOf}
-use Prim.Native.Nat.{ℕ, ◌+◌, ◌-◌, ◌≤◌}
+use Prim.Native.Nat.{ℕ, ◌+◌, ◌-◌, ◌≤◌, ◌<◌}
 use native.Mathlib.Omega.{arith}
-use borrow.Author.Tests.{leb-true}
+use borrow.Author.Tests.{leb-true, le-leb, lt-leb}
 use lib.Dec.{leb}
 use lib.ListN.{length, take, drop, length-drop}
 use lib.Seq.{take_all, drop-length, length-take-le}
@@ -23,6 +23,18 @@ module _ (rest : List ℕ) where
   -- the empty part at the end
   pub nothing_left : take (length rest - length rest) (drop (length rest) rest) ≡ []
   nothing_left = to_the_end (length rest) (omega arith) ∙ drop-length rest
+
+  pub is_within : header_bytes ≤ length rest → header_bytes + field_length rest ≤ length rest → field_within rest ≡ true
+  unfolding field_within
+  is_within l m = rw (le-leb header_bytes (length rest) l, le-leb (header_bytes + field_length rest) (length rest) m)
+
+  pub header_short : length rest < header_bytes → header_of rest ≡ None
+  unfolding header_of field_within
+  header_short l = rw (lt-leb header_bytes (length rest) l)
+
+  pub value_short : header_bytes ≤ length rest → length rest < header_bytes + field_length rest → header_of rest ≡ None
+  unfolding header_of field_within
+  value_short l m = rw (le-leb header_bytes (length rest) l, lt-leb (header_bytes + field_length rest) (length rest) m)
 
   -- a header is told where header and value are within the rest
   pub header_there : (h : Header) → header_of rest ≡ Some h → (field_within rest ≡ true) × (h.tag ≡ field_tag rest) × (h.length ≡ field_length rest)

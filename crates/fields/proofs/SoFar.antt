@@ -8,7 +8,7 @@ use borrow.Author.Tests.{eq-eqb, ne_eqb}
 use lib.ListN.{length}
 use Rattle.std.specs.Prelude.{Result, Ok, Err}
 use Rattle.refusals.specs.declared.Refusal.{Refusal}
-use Rattle.refusals.specs.Number.{number_of}
+use Rattle.refusals.specs.Number.{number_of, number_in}
 use Rattle.refusals.proofs.Numbers.{number_positive}
 use Rattle.std.specs.Result.{IsErrAnd}
 use Rattle.fields.specs.Bytes.{header_bytes, field_tag, header_of, field_value, field_rest}
@@ -149,3 +149,11 @@ module _ (job : List ℕ) (parts : JobParts) (last : ℕ) (rest : List ℕ) (s :
 pub job_unread : (job : List ℕ) (r : Result JobParts Refusal) (refusal : Refusal) → IsErrAnd r (λ e. e ≡ refusal) → job_fields job ≡ refused (number_of refusal) → JobReading job r
 job_unread job (Ok parts) refusal is e = absurd is
 job_unread job (Err told) refusal is e = e ∙ ap (λ (n : Refusal). refused (number_of n)) (sym is)
+
+-- a job that is complete is read without a refusal
+pub complete_read : (job : List ℕ) (r : Result JobParts Refusal) (fields : List Field) → JobReading job r → job_fields job ≡ complete fields → number_in r ≡ 0
+complete_read job (Ok parts) fields reading whole = refl
+complete_read job (Err refusal) fields reading whole =
+    let stopped = sym reading ∙ whole in
+    let never : ◌≡◌ {A = ℕ} 0 1 = cc in
+    absurd (omega arith)

@@ -52,7 +52,7 @@ pub put_full : (old : List ℕ) (at b : ℕ) → at ≤ length old → length ol
 put_full old at b l m = record { holds = sym (stored_behind old at (b ∷ []) m); next_is = omega arith }
 
 module _ {old bytes new : List ℕ} {at next : ℕ} (p : Put old at bytes new next) where
-  put_length : length new ≡ length old
+  pub put_length : length new ≡ length old
   put_length = ap length p.holds ∙ stored_length old at bytes
 
   pub put_within : next ≤ length new

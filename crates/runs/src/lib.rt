@@ -70,18 +70,25 @@ pub fn put_list<'a, T, F: Fn(&mut [T], u32, u32)>(
     })
 }
 
-// Reads a table into all places of a buffer.
-pub fn put_table(numbers: &mut Numbers<'_>, table: &mut [u32])
+// Reads a table into all places of a buffer, and of its pairs so many at most.
+pub fn put_pairs(numbers: &mut Numbers<'_>, table: &mut [u32], most_pairs: usize)
     ensures { length numbers.new ≤ length numbers.old }
 {
     let [s, k] = numbers.next_numbers::<2>();
     buffers::fill(table, 0, buffers::low_bits(s));
-    for _ in 0..buffers::at_most(k, MOST_NUMBERS) {
+    for _ in 0..buffers::at_most(k, most_pairs) {
         let [place, value] = numbers.next_numbers::<2>();
         if let Some(entry) = table.get_mut(place as usize) {
             *entry = buffers::low_bits(value);
         }
     }
+}
+
+// Reads a table into all places of a buffer.
+pub fn put_table(numbers: &mut Numbers<'_>, table: &mut [u32])
+    ensures { length numbers.new ≤ length numbers.old }
+{
+    put_pairs(numbers, table, MOST_NUMBERS);
 }
 
 #[cfg(test)]
@@ -117,5 +124,14 @@ mod tests {
         put_table(&mut numbers, &mut table);
         assert_eq!(rt; table, [0, 5, 6, 1]);
         assert_eq!(rt; numbers.next_number(), 6);
+    }
+
+    #[test]
+    fn reads_no_more_pairs(rt: HostRuntime) {
+        let mut numbers = Numbers::new(b"3 2 1 7 2 5");
+        let mut table = [9u32; 4];
+        put_pairs(&mut numbers, &mut table, 1);
+        assert_eq!(rt; table, [0, 7, 6, 9]);
+        assert_eq!(rt; numbers.next_number(), 2);
     }
 }

@@ -124,9 +124,19 @@ pub refused_fails : (c family p : ℕ) → (family_refusal c family p 0 ≡ 0 �
 unfolding passes step_refusal
 refused_fails c family p some = ne_eqb _ 0 some
 
+pub passes_accepted : (c family p : ℕ) → passes c family p ≡ true → family_refusal c family p 0 ≡ 0
+unfolding passes step_refusal
+passes_accepted c family p e = eqb-true _ 0 e
+
 pub accepted_passes : (c family p : ℕ) → family_refusal c family p 0 ≡ 0 → passes c family p ≡ true
 unfolding passes step_refusal
 accepted_passes c family p e = eq-eqb _ 0 e
+
+-- where p passes, its step is accepted at the number after the one before it, as a sum of family 1 is carried on
+pub accepted_next : (c p : ℕ) → 1 ≤ p → passes c 1 p ≡ true → family_refusal c 1 (p - 1 + 1) 0 ≡ 0
+accepted_next c p l e =
+    let same : p - 1 + 1 ≡ p = omega arith in
+    rw same (passes_accepted c 1 p e)
 
 pub passing_next : (c family low i : ℕ) → passing c family low (i + 1) ≡ passing c family low i ++ cond (passes c family (low + i)) ((low + i) ∷ []) []
 unfolding passing

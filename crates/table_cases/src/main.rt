@@ -12,7 +12,7 @@ use std::io::{self, Write};
 // The most bytes of standard input that are read.
 const MOST_BYTES: usize = 65_536;
 
-// The most entries of a case, one more than a table may have.
+// The most entries of a case, one more than a table may have, and the most pairs.
 const MOST_ENTRIES: usize = tables::MOST_ENTRIES + 1;
 
 // The most places of a buffer.
@@ -49,7 +49,7 @@ fn run_case<W: Write>(out: &mut W, numbers: &mut Numbers<'_>) -> io::Result<()>
     let table = buffers::front(&mut table, n);
     let working = buffers::front(&mut working, w);
     let list = buffers::front(&mut list, l);
-    runs::put_table(numbers, table);
+    runs::put_pairs(numbers, table, MOST_ENTRIES);
     check_table(out, table, working, list)
 }
 

@@ -1,13 +1,14 @@
 -- Refusals 6 to 10 as facts on a table and its buffers, and what the crates above need not unfold.
 use Rattle.std.proofs.lemmas.Bool.{or_parts}
-use mathlib.Core.Path.{◌≡◌, refl, sym}
-use mathlib.Core.Bool.{true, not, ◌||◌, and-eq-true_iff}
+use mathlib.Core.Path.{◌≡◌, refl, ap, sym}
+use mathlib.Core.Bool.{true, not, ◌&&◌, ◌||◌, and-eq-true_iff}
 use mathlib.Core.List.{List, [], ◌∷◌}
 use Prim.Native.Nat.{ℕ, zero, suc, ◌-◌, ◌≤◌, ◌<◌}
 use native.Mathlib.Omega.{arith}
 use borrow.Author.Tests.{leb-true, ltb-false, eqb-true, eqb-false, le-leb, le-ltb, eq-eqb, ne_eqb, not-false}
 use lib.Dec.{leb, ltb, eqb}
-use lib.ListN.{length, get_or}
+use lib.ListN.{length, get_or, drop}
+use lib.Seq.{drop-cons}
 use Rattle.std.specs.Prelude.{Result, Ok, Err, OnOk}
 use Rattle.refusals.specs.Number.{number_in}
 use Rattle.refusals.specs.declared.Refusal.{Refusal}
@@ -27,6 +28,10 @@ entry_is t x = refl
 pub scale_is_last : (t : List ℕ) → table_scale t ≡ get_or t (length t - 1) 0
 unfolding table_scale table_capacity entry
 scale_is_last t = refl
+
+pub within_next : (t : List ℕ) (i : ℕ) → i < length t → within_limit (drop i t) ≡ leb (get_or t i 0) limit && within_limit (drop (suc i) t)
+unfolding within_limit
+within_next t i l = ap within_limit (drop-cons t i 0 l)
 
 entry_small : (t : List ℕ) → within_limit t ≡ true → (x : ℕ) → entry t x ≤ limit
 unfolding within_limit entry

@@ -7,13 +7,26 @@ use native.Mathlib.Nat.{eq-or-lt_of_le}
 use native.Mathlib.Omega.{arith}
 use lib.ListN.{length, get_or, take, drop, set, length-set, length-reverse, get_or-append}
 use lib.Seq.{get_or_at, get_or-take, drop-set-lt, length-take-le, set-set, take_at}
-use Rattle.functions.proofs.Pasted.{pasted}
+use Rattle.std.proofs.lemmas.List.{length-take}
+use Rattle.functions.proofs.Pasted.{pasted, pasted_length}
 use Rattle.tables.specs.Table.{best, bests, all_bests, table_capacity}
 use Rattle.tables.specs.Check.{TableForm, at_front}
 use Rattle.tables.specs.Working.{AreBests}
 use Rattle.tables.proofs.Entries.{capacity_is}
 use Rattle.tables.proofs.Best.{best_zero, bests_length}
 use Rattle.tables.proofs.Buffers.{pasted_write, pasted_whole}
+
+-- where the first c places hold bests, so do the first d of them
+pub fewer_bests : (t working : List ℕ) (c d : ℕ) → AreBests t (take c working) → d ≤ c → AreBests t (take d working)
+fewer_bests t working c d b l =
+    let more = length-take c working in
+    let fewer = length-take d working in
+    record {
+      form = b.form;
+      in_table = omega (arith, b.in_table, more, fewer);
+      holds = λ j m.
+          get_or-take d working j 0 (omega (arith, fewer)) ∙ sym (get_or-take c working j 0 (omega (arith, fewer))) ∙ b.holds j (omega (arith, more, fewer));
+    }
 
 module _ (t : List ℕ) where
   ascending_length : (c : ℕ) → length (reverse (bests t c)) ≡ suc c
@@ -95,6 +108,10 @@ filled_first t old form room =
         ∙ pasted_write (all_bests t) (set old 0 0) 0 (set old 0 0) 0 refl (sym (all_at t form 0 (omega (arith, form.least)) ∙ best_zero t)) (omega (arith, all_length t form, form.least)) (omega (arith, length-set old 0 0, form.least))
 
 module _ (t old working : List ℕ) (c : ℕ) (f : Filled t old working c) where
+  pub filled_length : length working ≡ length old
+  filled_length =
+      ap length f.working_is ∙ pasted_length (all_bests t) old c (omega (arith, all_length t f.form, f.in_table)) (omega (arith, f.room, f.in_table))
+
   pub filled_bests : AreBests t (take c working)
   filled_bests = bests_pasted t f.form old working c f.in_table f.working_is
 

@@ -7,7 +7,7 @@ use mathlib.Core.Logic.{◌⊎◌, inl, inr}
 use Prim.Native.Nat.{ℕ, ◌≤◌, ◌<◌}
 use native.Mathlib.Nat.{le_refl, le_trans}
 use native.Mathlib.Omega.{arith}
-use borrow.Author.Tests.{ltb-false, le-ltb}
+use borrow.Author.Tests.{ltb-false, le-ltb, lt-ltb}
 use lib.Dec.{ltb}
 use lib.ListN.{length}
 use Rattle.functions.specs.Words.{total, DualFeasible}
@@ -29,6 +29,10 @@ module _ (t : List ℕ) where
   pub accepted : form_refusal t ≡ 0 → best t (table_capacity t) ≤ table_scale t → entries_refusal t ≡ 0
   unfolding entries_refusal
   accepted f l = rw (f, le-ltb (table_scale t) (best t (table_capacity t)) l)
+
+  pub refuted : form_refusal t ≡ 0 → table_scale t < best t (table_capacity t) → entries_refusal t ≡ 11
+  unfolding entries_refusal
+  refuted f l = rw (f, lt-ltb (table_scale t) (best t (table_capacity t)) l)
 
   pub overshoots : table_scale t < best t (table_capacity t) → Overshoots t (counterexample t)
   unfolding counterexample

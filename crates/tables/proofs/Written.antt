@@ -77,7 +77,7 @@ module _ (t old list : List ℕ) (c n : ℕ) (w : Written t old list c n) where
     goes_on : n < length (counterexample t)
     goes_on = omega (arith, w.count, ap length (walk_step t c pos))
 
-    written_room : n < length old
+    pub written_room : n < length old
     written_room = omega (arith, goes_on, counterexample_short t, w.room)
 
     begins : drop n (counterexample t) ≡ least_size t c ∷ walk t (c - least_size t c) (c - least_size t c)
